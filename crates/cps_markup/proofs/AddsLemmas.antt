@@ -3,12 +3,11 @@ use Rattle.std.proofs.Common.{◌≡◌, ℕ, zero, suc, ◌<◌, Bool, true, fa
 use Rattle.std.specs.Prelude.{All, if◌then◌else◌}
 use Rattle.std.proofs.lemmas.List.{take-append-drop}
 use Rattle.std.proofs.lemmas.List.Elements.{All-append}
-use Rattle.cps_markup.specs.declared.attribute.Attribute.{Attribute}
 use Rattle.cps_markup.specs.declared.place.Place.{Place}
 use Rattle.cps_markup.specs.declared.tag.Tag.{Tag}
 use Rattle.cps_markup.specs.declared.tag.Tag.TheVariants as tag
-use Rattle.cps_markup.specs.Markup.{Markup, nothing, says, element, Link, written, said, places, links, opening, closing, escaped, is_note, identified, targeted}
-use Rattle.cps_markup.specs.Code.Adding.{Adds, row_attributes}
+use Rattle.cps_markup.specs.Markup.{Attribute, Markup, nothing, says, element, Link, written, said, places, links, opening, closing, escaped, is_note, identified, targeted}
+use Rattle.cps_markup.specs.Code.Adding.{Adds, fold_attributes, row_attributes, row_tag}
 
 -- ---- markup behind markup
 
@@ -97,7 +96,20 @@ module _ (P : Link → Type 0) where
   adds-end (c ∷ rest) page is = absurd (omega arith)
 
   -- a row, whether it has a flag or not
-  pub adds-row : (is_flagged : Bool) (s old middle later new : List ℕ) → middle ≡ old ++ opening tag.Row (row_attributes is_flagged) → Adds P s [] middle later
-      → new ≡ later ++ closing tag.Row → Adds P s [] old new
-  adds-row true s old middle later new begun a ended = adds-element tag.Row (row_attributes true) s [] old middle later new begun a ended (all-none P)
-  adds-row false s old middle later new begun a ended = adds-element tag.Row (row_attributes false) s [] old middle later new begun a ended (all-none P)
+  pub adds-row : (is_summary is_flagged : Bool) (s old middle later new : List ℕ) → middle ≡ old ++ opening (row_tag is_summary) (row_attributes is_flagged)
+      → Adds P s [] middle later → new ≡ later ++ closing (row_tag is_summary) → Adds P s [] old new
+  adds-row true true s old middle later new begun a ended = adds-element tag.Summary (row_attributes true) s [] old middle later new begun a ended (all-none P)
+  adds-row true false s old middle later new begun a ended = adds-element tag.Summary (row_attributes false) s [] old middle later new begun a ended (all-none P)
+  adds-row false true s old middle later new begun a ended = adds-element tag.Row (row_attributes true) s [] old middle later new begun a ended (all-none P)
+  adds-row false false s old middle later new begun a ended = adds-element tag.Row (row_attributes false) s [] old middle later new begun a ended (all-none P)
+
+  -- folded rows, whether they are unfolded at first or not
+  pub adds-fold : (is_unfolded : Bool) (s old middle later new : List ℕ) → middle ≡ old ++ opening tag.Fold (fold_attributes is_unfolded) → Adds P s [] middle later
+      → new ≡ later ++ closing tag.Fold → Adds P s [] old new
+  adds-fold true s old middle later new begun a ended = adds-element tag.Fold (fold_attributes true) s [] old middle later new begun a ended (all-none P)
+  adds-fold false s old middle later new begun a ended = adds-element tag.Fold (fold_attributes false) s [] old middle later new begun a ended (all-none P)
+
+  -- a text, and then a note
+  pub adds-before : (s : List ℕ) (p : List Place) (old middle new : List ℕ) → Adds P s p old middle → Adds P [] [] middle new → Adds P s p old new
+  adds-before s p old middle new a later =
+      subst (λ l. Adds P l p old new) (append-nil s) (subst (λ ps. Adds P (s ++ []) ps old new) (append-nil p) (adds-joined s [] p [] old middle new a later))

@@ -71,12 +71,18 @@ number-no-name n name small written same =
 -- ---- sections
 
 number-no-section : (n : ℕ) (section : PageSection) → n < 2 ^ 64 → decimal n ≡ section_name section → ⊥
+number-no-section n page.Memory small same = let b = number-begins n small in let e : b.0 ≡ 109 = ap (λ t. get_or t 0 0) (sym b.1.1.0 ∙ same) in let h = b.1.1.1.1 in omega (arith, e, h)
 number-no-section n page.Listing small same = let b = number-begins n small in let e : b.0 ≡ 108 = ap (λ t. get_or t 0 0) (sym b.1.1.0 ∙ same) in let h = b.1.1.1.1 in omega (arith, e, h)
 number-no-section n page.Words small same = let b = number-begins n small in let e : b.0 ≡ 119 = ap (λ t. get_or t 0 0) (sym b.1.1.0 ∙ same) in let h = b.1.1.1.1 in omega (arith, e, h)
 number-no-section n page.Symbols small same = let b = number-begins n small in let e : b.0 ≡ 115 = ap (λ t. get_or t 0 0) (sym b.1.1.0 ∙ same) in let h = b.1.1.1.1 in omega (arith, e, h)
 number-no-section n page.Flags small same = let b = number-begins n small in let e : b.0 ≡ 102 = ap (λ t. get_or t 0 0) (sym b.1.1.0 ∙ same) in let h = b.1.1.1.1 in omega (arith, e, h)
+number-no-section n page.Instructions small same = let b = number-begins n small in let e : b.0 ≡ 105 = ap (λ t. get_or t 0 0) (sym b.1.1.0 ∙ same) in let h = b.1.1.1.1 in omega (arith, e, h)
 
 symbol-no-section : (name : Name) (section : PageSection) → name_of (name_text name) ≡ Some name → name_text name ≡ section_name section → ⊥
+symbol-no-section name page.Memory written same =
+    let is = same_Some name (record { bytes = padded (codes "MEMORY") }) (sym written ∙ ap name_of same) in
+    let e : 109 ≡ 77 = ap (λ t. get_or t 0 0) (sym same) ∙ ap (λ (n : Name). get_or (name_text n) 0 0) is in
+    omega (arith, e)
 symbol-no-section name page.Listing written same =
     let is = same_Some name (record { bytes = padded (codes "LISTING") }) (sym written ∙ ap name_of same) in
     let e : 108 ≡ 76 = ap (λ t. get_or t 0 0) (sym same) ∙ ap (λ (n : Name). get_or (name_text n) 0 0) is in
@@ -93,24 +99,25 @@ symbol-no-section name page.Flags written same =
     let is = same_Some name (record { bytes = padded (codes "FLAGS") }) (sym written ∙ ap name_of same) in
     let e : 102 ≡ 70 = ap (λ t. get_or t 0 0) (sym same) ∙ ap (λ (n : Name). get_or (name_text n) 0 0) is in
     omega (arith, e)
+symbol-no-section name page.Instructions written same = let e : None ≡ Some name = sym (ap name_of same) ∙ written in true≢false (sym (ap is_some e))
+
+-- the section whose name begins with a letter
+section_with : ℕ → PageSection
+section_with letter =
+    if letter == 109 then page.Memory else if letter == 108 then page.Listing else if letter == 119 then page.Words else if letter == 115 then page.Symbols
+    else if letter == 102 then page.Flags else page.Instructions
+
+section-with : (section : PageSection) → section_with (get_or (section_name section) 0 0) ≡ section
+unfolding section_with
+section-with page.Memory = refl
+section-with page.Listing = refl
+section-with page.Words = refl
+section-with page.Symbols = refl
+section-with page.Flags = refl
+section-with page.Instructions = refl
 
 same-section : (a b : PageSection) → section_name a ≡ section_name b → a ≡ b
-same-section page.Listing page.Listing same = refl
-same-section page.Listing page.Words same = absurd (let e : 108 ≡ 119 = ap (λ l. get_or l 0 0) same in omega (arith, e))
-same-section page.Listing page.Symbols same = absurd (let e : 108 ≡ 115 = ap (λ l. get_or l 0 0) same in omega (arith, e))
-same-section page.Listing page.Flags same = absurd (let e : 108 ≡ 102 = ap (λ l. get_or l 0 0) same in omega (arith, e))
-same-section page.Words page.Listing same = absurd (let e : 119 ≡ 108 = ap (λ l. get_or l 0 0) same in omega (arith, e))
-same-section page.Words page.Words same = refl
-same-section page.Words page.Symbols same = absurd (let e : 119 ≡ 115 = ap (λ l. get_or l 0 0) same in omega (arith, e))
-same-section page.Words page.Flags same = absurd (let e : 119 ≡ 102 = ap (λ l. get_or l 0 0) same in omega (arith, e))
-same-section page.Symbols page.Listing same = absurd (let e : 115 ≡ 108 = ap (λ l. get_or l 0 0) same in omega (arith, e))
-same-section page.Symbols page.Words same = absurd (let e : 115 ≡ 119 = ap (λ l. get_or l 0 0) same in omega (arith, e))
-same-section page.Symbols page.Symbols same = refl
-same-section page.Symbols page.Flags same = absurd (let e : 115 ≡ 102 = ap (λ l. get_or l 0 0) same in omega (arith, e))
-same-section page.Flags page.Listing same = absurd (let e : 102 ≡ 108 = ap (λ l. get_or l 0 0) same in omega (arith, e))
-same-section page.Flags page.Words same = absurd (let e : 102 ≡ 119 = ap (λ l. get_or l 0 0) same in omega (arith, e))
-same-section page.Flags page.Symbols same = absurd (let e : 102 ≡ 115 = ap (λ l. get_or l 0 0) same in omega (arith, e))
-same-section page.Flags page.Flags same = refl
+same-section a b same = sym (section-with a) ∙ ap (λ text. section_with (get_or text 0 0)) same ∙ section-with b
 
 -- ---- places
 

@@ -1,8 +1,8 @@
 -- Markup as it is written: HTML that is XML too. From HTML's rules for text, elements and attributes.
 use Prim.Native.Char.{code}
 use Rattle.std.specs.Prelude.{ℕ, Bool, true, false, ◌==◌, List, [], ◌∷◌, ◌++◌, map, flat_map, codes, if◌then◌else◌}
-use Rattle.cps_markup.specs.declared.attribute.Attribute.{Attribute}
-use Rattle.cps_markup.specs.declared.attribute.Attribute.TheVariants.{Identifier, Target, Styled}
+use Rattle.cps_markup.specs.declared.attribute.Attribute.{Attribute as CodeAttribute}
+use Rattle.cps_markup.specs.declared.attribute.Attribute.TheVariants as made
 use Rattle.cps_markup.specs.declared.place.Place.{Place}
 use Rattle.cps_markup.specs.declared.style.Style.{Style}
 use Rattle.cps_markup.specs.declared.tag.Tag.{Tag}
@@ -10,6 +10,22 @@ use Rattle.cps_markup.specs.declared.tag.Tag.TheVariants as tag
 use Rattle.cps_markup.specs.Places.{place_text, style_name}
 
 -- ---- what markup is
+
+-- an element is a place, or leads to one; it has a style, or a text that explains it; or it is unfolded at first
+pub data Attribute : Type 0 where
+  identifier : Place → Attribute
+  target : Place → Attribute
+  styled : Style → Attribute
+  titled : List ℕ → Attribute
+  unfolded : Attribute
+
+-- an attribute of the code
+abbrev pub attribute_of : CodeAttribute → Attribute
+attribute_of (made.Identifier place) = identifier place
+attribute_of (made.Target place) = target place
+attribute_of (made.Styled style) = styled style
+attribute_of (made.Titled words) = titled words.now
+attribute_of made.Unfolded = unfolded
 
 -- text, and what is behind it; an element with what is inside of it, and what is behind it
 pub data Markup : Type 0 where
@@ -38,16 +54,23 @@ tag_name tag.Row = codes "div"
 tag_name tag.Part = codes "i"
 tag_name tag.Link = codes "a"
 tag_name tag.Note = codes "small"
+tag_name tag.Front = codes "span"
+tag_name tag.Fold = codes "details"
+tag_name tag.Summary = codes "summary"
 
 abbrev pub attribute_name : Attribute → List ℕ
-attribute_name (Identifier place) = codes " id=\""
-attribute_name (Target place) = codes " href=\"#"
-attribute_name (Styled style) = codes " class=\""
+attribute_name (identifier place) = codes " id=\""
+attribute_name (target place) = codes " href=\"#"
+attribute_name (styled style) = codes " class=\""
+attribute_name (titled words) = codes " title=\""
+attribute_name unfolded = codes " open=\""
 
 abbrev pub attribute_value : Attribute → List ℕ
-attribute_value (Identifier place) = place_text place
-attribute_value (Target place) = place_text place
-attribute_value (Styled style) = style_name style
+attribute_value (identifier place) = place_text place
+attribute_value (target place) = place_text place
+attribute_value (styled style) = style_name style
+attribute_value (titled words) = words
+attribute_value unfolded = []
 
 -- a value is quoted
 abbrev pub attribute_text : Attribute → List ℕ
@@ -74,6 +97,9 @@ is_note tag.Section = false
 is_note tag.Row = false
 is_note tag.Part = false
 is_note tag.Link = false
+is_note tag.Front = false
+is_note tag.Fold = false
+is_note tag.Summary = false
 
 -- the text outside of notes
 abbrev pub said : Markup → List ℕ
@@ -82,9 +108,8 @@ said (says words behind) = words ++ said behind
 said (element tag attributes inside behind) = (if is_note tag then [] else said inside) ++ said behind
 
 abbrev pub identified : Attribute → List Place
-identified (Identifier place) = place ∷ []
-identified (Target place) = []
-identified (Styled style) = []
+identified (identifier place) = place ∷ []
+identified _ = []
 
 -- the places that have an identifier
 abbrev pub places : Markup → List Place
@@ -98,9 +123,8 @@ pub record Link : Type 0 where
   pub words : List ℕ
 
 abbrev pub targeted : List ℕ → Attribute → List Link
-targeted words (Identifier place) = []
-targeted words (Target place) = record { place = place; words = words } ∷ []
-targeted words (Styled style) = []
+targeted words (target place) = record { place = place; words = words } ∷ []
+targeted words _ = []
 
 abbrev pub links : Markup → List Link
 links nothing = []

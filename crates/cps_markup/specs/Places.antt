@@ -10,10 +10,12 @@ use Rattle.cps_markup.specs.declared.style.Style.{Style}
 use Rattle.cps_markup.specs.declared.style.Style.TheVariants as style
 
 abbrev pub section_name : PageSection → List ℕ
+section_name page.Memory = codes "memory"
 section_name page.Listing = codes "listing"
 section_name page.Words = codes "words"
 section_name page.Symbols = codes "symbols"
 section_name page.Flags = codes "flags"
+section_name page.Instructions = codes "instructions"
 
 -- a line's number, a symbol's name, a small word
 abbrev pub place_text : Place → List ℕ
@@ -26,6 +28,8 @@ section_number page.Listing = 0
 section_number page.Words = 1
 section_number page.Symbols = 2
 section_number page.Flags = 3
+section_number page.Memory = 4
+section_number page.Instructions = 5
 
 abbrev pub same_place : Place → Place → Bool
 same_place (Line a) (Line b) = a == b
@@ -47,3 +51,5 @@ style_name style.FieldK = codes "k"
 style_name style.Constant = codes "K"
 style_name style.Grey = codes "z"
 style_name style.Comment = codes "x"
+style_name style.Cause = codes "c"
+style_name style.Table = codes "t"

@@ -3,10 +3,12 @@
 //! - `attribute.rt`: the begins and ends of elements
 //! - `escaping.rt`: text, with those characters by name that begin markup
 //! - `escaping_laws.rt`: what holds of text in markup
+//! - `line_fields.rt`: the fields of a line, as they are painted
 //! - `link.rt`: links, each of which leads somewhere
 //! - `painting.rt`: how rows are painted
 //! - `place.rt`: what a link leads to
 //! - `place_laws.rt`: what holds of the identifiers of places
+//! - `row_form.rt`: the form of a row's instruction
 //! - `rows.rt`: rows of a text
 //! - `stretch.rt`: a row, part by part
 //! - `style.rt`: how a part of a row looks
@@ -17,10 +19,12 @@
 mod attribute;
 mod escaping;
 mod escaping_laws;
+mod line_fields;
 mod link;
 mod painting;
 mod place;
 mod place_laws;
+mod row_form;
 mod rows;
 mod stretch;
 mod style;
@@ -30,9 +34,12 @@ mod targets;
 pub use attribute::{Attribute, push_closing, push_opening};
 pub use escaping::push_text;
 pub use escaping_laws::{a_text_is_read_back, no_text_is_markup};
+pub use link::push_note;
 pub use place::{PageSection, Place};
 pub use place_laws::identifiers_differ;
+pub use row_form::RowForm;
 pub use rows::{push_group, push_rows, row_length};
+pub use stretch::{ShownRow, push_row};
 pub use style::Style;
 pub use tag::Tag;
 pub use targets::{Entry, Targets};

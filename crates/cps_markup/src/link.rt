@@ -64,3 +64,33 @@ pub fn push_styled(
     push_closing(page, Tag::Part)?;
     Ok(())
 }
+
+/// Appends words that a title explains.
+pub fn push_titled(
+    page: &mut Vec<u8>,
+    targets: &Targets,
+    words: &[u8],
+    title: &[u8],
+) -> Result<(), AllocError>
+    ensures { OnOk result (Adds (Leads targets.now) words.now [] page.old.items page.new.items) }
+{
+    push_opening(page, Tag::Part, &[Attribute::Titled(title)])?;
+    push_text(page, words)?;
+    push_closing(page, Tag::Part)?;
+    Ok(())
+}
+
+/// Appends words beside a text, of which they are no part.
+pub fn push_note(
+    page: &mut Vec<u8>,
+    targets: &Targets,
+    style: Style,
+    words: &[u8],
+) -> Result<(), AllocError>
+    ensures { OnOk result (Adds (Leads targets.now) [] [] page.old.items page.new.items) }
+{
+    push_opening(page, Tag::Note, &[Attribute::Styled(style)])?;
+    push_text(page, words)?;
+    push_closing(page, Tag::Note)?;
+    Ok(())
+}

@@ -1,8 +1,10 @@
 //! How rows are painted: which parts look how, and which lead where. What is said is the row whatever stands here.
 ghost use Rattle.std.specs.Prelude.{◌≤◌, length};
 
+use crate::line_fields::behind;
 use crate::place::{PageSection, Place};
-use crate::stretch::{Paint, Stretch};
+use crate::row_form::RowForm;
+use crate::stretch::{BEFORE_LINE, Paint, PaintedRow, Stretch};
 use crate::style::Style;
 use crate::targets::Targets;
 use cps_text::Name;
@@ -19,23 +21,19 @@ const BEFORE_CODE: usize = 16;
 
 const BEFORE_NUMBER: usize = 37;
 
-const BEFORE_LINE: usize = 44;
-
-/// The columns before the operands, where a line without a word there has a comment.
-const BEFORE_COMMENT: usize = 29;
-
 /// The stretch of a row that begins behind so many of its characters.
-pub fn stretch_at(targets: &Targets, section: PageSection, row: &[u8], before: usize) -> Stretch {
-    match section {
-        PageSection::Listing => listing_stretch(targets, row, before),
-        PageSection::Words => word_stretch(row, before),
-        PageSection::Symbols => symbol_stretch(targets, row, before),
-        PageSection::Flags => flag_stretch(row, before),
+pub fn stretch_at<'a>(targets: &Targets, painted: &PaintedRow<'a>, before: usize) -> Stretch<'a> {
+    match painted.section {
+        PageSection::Listing => listing_stretch(targets, painted, before),
+        PageSection::Words => word_stretch(painted.text, before),
+        PageSection::Symbols => symbol_stretch(targets, painted.text, before),
+        PageSection::Flags => flag_stretch(painted.text, before),
+        PageSection::Memory | PageSection::Instructions => plain(painted.text.len()),
     }
 }
 
 /// The address of a word is grey.
-fn word_stretch(row: &[u8], before: usize) -> Stretch {
+fn word_stretch<'a>(row: &[u8], before: usize) -> Stretch<'a> {
     if before == 0 && begins_with_digit(row) {
         return styled(length_until_blank(row), Style::Grey);
     }
@@ -43,7 +41,7 @@ fn word_stretch(row: &[u8], before: usize) -> Stretch {
 }
 
 /// A line's number leads to the line; the letters behind it are flags.
-fn flag_stretch(row: &[u8], before: usize) -> Stretch {
+fn flag_stretch<'a>(row: &[u8], before: usize) -> Stretch<'a> {
     if row.ends_with(b"lines") || !begins_with_digit(row) {
         return plain(row.len());
     }
@@ -58,7 +56,7 @@ fn flag_stretch(row: &[u8], before: usize) -> Stretch {
 }
 
 /// A symbol and each number lead to lines; the value is grey.
-fn symbol_stretch(targets: &Targets, row: &[u8], before: usize) -> Stretch {
+fn symbol_stretch<'a>(targets: &Targets, row: &[u8], before: usize) -> Stretch<'a> {
     let rest = behind(row, before);
     if before < BEFORE_VALUE {
         return name_stretch(targets, rest);
@@ -73,20 +71,20 @@ fn symbol_stretch(targets: &Targets, row: &[u8], before: usize) -> Stretch {
 }
 
 /// The flags, the address, the code, the number and the line.
-fn listing_stretch(targets: &Targets, row: &[u8], before: usize) -> Stretch {
-    let rest = behind(row, before);
+fn listing_stretch<'a>(targets: &Targets, painted: &PaintedRow<'a>, before: usize) -> Stretch<'a> {
     if before >= BEFORE_LINE {
-        return line_stretch(targets, behind(row, BEFORE_LINE), before - BEFORE_LINE);
+        return line_stretch(targets, painted, before - BEFORE_LINE);
     }
+    let rest = behind(painted.text, before);
     let blanks = blank_length(rest);
     if blanks > 0 {
         return plain(blanks.min(BEFORE_LINE - before));
     }
-    front_stretch(row, rest, before)
+    front_stretch(painted, rest, before)
 }
 
 /// A word of a row before the line: flags, an address, a code, or a number, which leads to the line itself.
-fn front_stretch(row: &[u8], rest: &[u8], before: usize) -> Stretch {
+fn front_stretch<'a>(painted: &PaintedRow<'_>, rest: &[u8], before: usize) -> Stretch<'a> {
     let length = length_until_blank(rest);
     if before < BEFORE_ADDRESS {
         return styled(length, Style::Flag);
@@ -95,46 +93,57 @@ fn front_stretch(row: &[u8], rest: &[u8], before: usize) -> Stretch {
         return styled(length, Style::Grey);
     }
     if before < BEFORE_NUMBER {
-        return code_stretch(row, before);
+        return code_stretch(painted, before);
     }
     number_stretch(rest.split_at(length).0)
 }
 
-/// A part of an instruction's code: the fields i, j and k, or an address. Codes of words and of fields have no such parts.
-fn code_stretch(row: &[u8], before: usize) -> Stretch {
-    let digits = length_until_blank(behind(row, BEFORE_CODE));
-    let is_long = digits == 10;
-    if !(digits == 5 || is_long) || has_fields(behind(row, BEFORE_LINE)) {
-        return plain(BEFORE_NUMBER.saturating_sub(before));
-    }
-    match before.saturating_sub(BEFORE_CODE) {
-        0 => plain(2),
-        2 => styled(1, Style::FieldI),
-        3 => styled(1, Style::FieldJ),
-        4 => last_field(is_long),
-        _ => plain(BEFORE_NUMBER.saturating_sub(before)),
+/// A part of an instruction's code: its fields, or an address. Codes of words and of fields have no such parts.
+fn code_stretch<'a>(painted: &PaintedRow<'_>, before: usize) -> Stretch<'a> {
+    match painted.form {
+        Some(form) => field_stretch(form, before.saturating_sub(BEFORE_CODE)),
+        None => plain(BEFORE_NUMBER.saturating_sub(before)),
     }
 }
 
-/// The field k of a short code, the address of a long one.
-fn last_field(is_long: bool) -> Stretch {
-    if is_long {
-        styled(6, Style::Constant)
-    } else {
-        styled(1, Style::FieldK)
+/// The digits of a code that are of one field with the digit at a column.
+fn field_stretch<'a>(form: RowForm<'_>, at: usize) -> Stretch<'a> {
+    let letters = behind(form.code, at);
+    let style = match letters.first() {
+        Some(letter) => style_of(*letter),
+        None => return plain(1),
+    };
+    let width = field_width(letters, style);
+    match style {
+        Some(style) => styled(width, style),
+        None => plain(width),
     }
 }
 
-/// Whether a line is no instruction but a VFD, or no line is shown.
-fn has_fields(line: &[u8]) -> bool {
-    let location = length_until_blank(line);
-    let rest = behind(line, location);
-    let operation = behind(rest, blank_length(rest));
-    operation.is_empty() || operation.starts_with(b"VFD")
+/// How many letters a text begins with that have this style.
+fn field_width(letters: &[u8], style: Option<Style>) -> usize {
+    for (at, letter) in letters.iter().enumerate() {
+        if style_of(*letter) != style {
+            return at;
+        }
+    }
+    letters.len()
+}
+
+/// How the digits look for which a letter stands; None: as they are.
+fn style_of(letter: u8) -> Option<Style> {
+    match letter {
+        b'i' | b'd' => Some(Style::FieldI),
+        b'j' => Some(Style::FieldJ),
+        b'k' => Some(Style::FieldK),
+        b'K' | b'n' | b'm' | b'c' => Some(Style::Constant),
+        _ => None,
+    }
 }
 
 /// A part of a line: a symbol that it defines leads to the cross-reference, one that it reads to its definition.
-fn line_stretch(targets: &Targets, line: &[u8], before: usize) -> Stretch {
+fn line_stretch<'a>(targets: &Targets, painted: &PaintedRow<'a>, before: usize) -> Stretch<'a> {
+    let line = behind(painted.text, BEFORE_LINE);
     let rest = behind(line, before);
     if line.starts_with(b"*") {
         return styled(rest.len(), Style::Comment);
@@ -143,47 +152,41 @@ fn line_stretch(targets: &Targets, line: &[u8], before: usize) -> Stretch {
     if blanks > 0 {
         return plain(blanks);
     }
-    let length = symbol_length(rest);
-    if length == 0 {
-        return plain(1);
+    if before >= painted.fields.operands_end {
+        return styled(rest.len(), Style::Comment);
     }
-    if before < 2 {
-        return location_stretch(rest.split_at(length).0);
-    }
-    word_in_line(targets, line, rest, before)
+    word_in_line(targets, painted, rest, before)
 }
 
-/// A word of a line behind its location field.
-fn word_in_line(targets: &Targets, line: &[u8], rest: &[u8], before: usize) -> Stretch {
-    match field_number(line, before) {
-        0 | 1 => plain(symbol_length(rest)),
-        2 => name_stretch(targets, rest),
-        _ => styled(rest.len(), Style::Comment),
+/// A word of a line before its comment.
+fn word_in_line<'a>(
+    targets: &Targets,
+    painted: &PaintedRow<'a>,
+    rest: &[u8],
+    before: usize,
+) -> Stretch<'a> {
+    if before < painted.fields.location_end {
+        return location_stretch(rest.split_at(length_until_blank(rest)).0);
     }
+    if before < painted.fields.operation_end {
+        return operation_stretch(painted.form, length_until_blank(rest));
+    }
+    name_stretch(targets, rest)
 }
 
-/// How many fields of a line begin before a column, where a line without a location has an empty one.
-fn field_number(line: &[u8], before: usize) -> usize {
-    let mut fields: usize = if line.starts_with(b" ") { 1 } else { 0 };
-    let mut was_blank = true;
-    for (at, character) in line.iter().enumerate() {
-        let is_blank = *character == b' ';
-        if was_blank && !is_blank {
-            if fields == 2 && at > BEFORE_COMMENT {
-                fields += 1;
-            }
-            fields = fields.saturating_add(1);
-        }
-        if at >= before {
-            return fields.saturating_sub(1);
-        }
-        was_blank = is_blank;
+/// An operation, with what it does as its title.
+fn operation_stretch<'a>(form: Option<RowForm<'a>>, width: usize) -> Stretch<'a> {
+    match form {
+        Some(form) if !form.sentence.is_empty() => Stretch {
+            width,
+            paint: Paint::Titled(form.sentence),
+        },
+        _ => plain(width),
     }
-    fields.saturating_sub(1)
 }
 
 /// A symbol in the location field leads to its row of the cross-reference.
-fn location_stretch(word: &[u8]) -> Stretch {
+fn location_stretch<'a>(word: &[u8]) -> Stretch<'a> {
     let paint = match Name::read(word) {
         Some(name) => Paint::Linked(Place::Symbol(name)),
         None => Paint::Plain,
@@ -195,7 +198,7 @@ fn location_stretch(word: &[u8]) -> Stretch {
 }
 
 /// A symbol at the begin of a text leads to the line that defines it.
-fn name_stretch(targets: &Targets, rest: &[u8]) -> Stretch {
+fn name_stretch<'a>(targets: &Targets, rest: &[u8]) -> Stretch<'a> {
     let length = symbol_length(rest);
     if length == 0 {
         return plain(blank_length(rest).max(1));
@@ -215,7 +218,7 @@ fn name_stretch(targets: &Targets, rest: &[u8]) -> Stretch {
 }
 
 /// Digits lead to the line of their number.
-fn number_stretch(digits: &[u8]) -> Stretch {
+fn number_stretch<'a>(digits: &[u8]) -> Stretch<'a> {
     let paint = match number_in(digits) {
         Some(number) => Paint::Linked(Place::Line(number)),
         None => Paint::Plain,
@@ -240,23 +243,18 @@ fn number_in(digits: &[u8]) -> Option<u32> {
     Some(number)
 }
 
-fn plain(width: usize) -> Stretch {
+fn plain<'a>(width: usize) -> Stretch<'a> {
     Stretch {
         width,
         paint: Paint::Plain,
     }
 }
 
-fn styled(width: usize, style: Style) -> Stretch {
+fn styled<'a>(width: usize, style: Style) -> Stretch<'a> {
     Stretch {
         width,
         paint: Paint::Styled(style),
     }
-}
-
-/// What stands behind so many characters.
-fn behind(text: &[u8], before: usize) -> &[u8] {
-    text.split_at(before.min(text.len())).1
 }
 
 fn begins_with_digit(text: &[u8]) -> bool {

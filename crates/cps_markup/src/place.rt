@@ -8,13 +8,15 @@ use cps_text::Name;
 use itoa::Buffer;
 use std::alloc::AllocError;
 
-/// A section of a page: one of the four texts.
+/// A section of a page: one of the four texts, or what is told beside them.
 #[derive(Clone, Copy, PartialEq, Eq)]
 pub enum PageSection {
+    Memory,
     Listing,
     Words,
     Symbols,
     Flags,
+    Instructions,
 }
 
 impl PageSection {
@@ -23,10 +25,12 @@ impl PageSection {
         ensures { result.now ≡ section_name self }
     {
         match self {
+            PageSection::Memory => b"memory",
             PageSection::Listing => b"listing",
             PageSection::Words => b"words",
             PageSection::Symbols => b"symbols",
             PageSection::Flags => b"flags",
+            PageSection::Instructions => b"instructions",
         }
     }
 }

@@ -5,7 +5,7 @@ ghost use Rattle.cps_markup.specs.Code.Adding.{Adds};
 
 use crate::attribute::{Attribute, push_closing, push_opening};
 use crate::place::{PageSection, Place};
-use crate::stretch::push_row;
+use crate::stretch::{ShownRow, push_row};
 use crate::tag::Tag;
 use crate::targets::Targets;
 use std::alloc::AllocError;
@@ -38,7 +38,14 @@ pub fn push_rows(
     let mut rest = rows;
     while !rest.is_empty() {
         let (row, behind) = rest.split_at(row_length(rest));
-        push_row(page, targets, section, row)?;
+        let shown = ShownRow {
+            section,
+            text: row,
+            form: None,
+            note: b"",
+            is_summary: false,
+        };
+        push_row(page, targets, &shown)?;
         rest = behind;
     }
     Ok(())

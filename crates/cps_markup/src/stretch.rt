@@ -2,59 +2,112 @@
 ghost use Rattle.std.specs.Prelude.{◌≡◌, ◌≤◌, ◌<◌, [], ◌++◌, OnOk, length};
 ghost use Rattle.cps_markup.specs.Links.{Leads};
 ghost use Rattle.cps_markup.specs.Markup.{opening};
-ghost use Rattle.cps_markup.specs.Code.Adding.{Adds, row_attributes};
+ghost use Rattle.cps_markup.specs.Code.Adding.{Adds, row_attributes, row_tag};
 
 use crate::attribute::{Attribute, push_closing, push_opening};
 use crate::escaping::push_text;
-use crate::link::{push_link, push_plain, push_styled};
+use crate::line_fields::LineFields;
+use crate::link::{push_link, push_note, push_plain, push_styled, push_titled};
 use crate::painting::stretch_at;
 use crate::place::{PageSection, Place};
+use crate::row_form::RowForm;
 use crate::style::Style;
 use crate::tag::Tag;
 use crate::targets::Targets;
 use std::alloc::AllocError;
 
+/// The columns of the listing before the line.
+pub const BEFORE_LINE: usize = 44;
+
 /// How a part of a row is shown.
-#[derive(Clone, Copy, PartialEq, Eq)]
-pub enum Paint {
+#[derive(Clone, Copy)]
+pub enum Paint<'a> {
     Plain,
     Styled(Style),
     Linked(Place),
+    /// Words that this explains.
+    Titled(&'a [u8]),
 }
 
 /// So many characters of a row, and how they are shown.
 #[derive(Clone, Copy)]
-pub struct Stretch {
+pub struct Stretch<'a> {
     pub width: usize,
-    pub paint: Paint,
+    pub paint: Paint<'a>,
 }
 
-/// Appends a row of the text of a section, with its line feed. Whatever is painted, what it says is the row.
+/// A row of the text of a section, as it is shown.
+#[derive(Clone, Copy)]
+pub struct ShownRow<'a> {
+    pub section: PageSection,
+    /// With its line feed.
+    pub text: &'a [u8],
+    /// The form of its instruction, if it has one.
+    pub form: Option<RowForm<'a>>,
+    /// What is told behind it, perhaps nothing.
+    pub note: &'a [u8],
+    /// Whether it stands for rows that can be folded.
+    pub is_summary: bool,
+}
+
+/// A row that is painted.
+#[derive(Clone, Copy)]
+pub struct PaintedRow<'a> {
+    pub section: PageSection,
+    /// Without its line feed.
+    pub text: &'a [u8],
+    pub form: Option<RowForm<'a>>,
+    /// The fields of its line, in the listing.
+    pub fields: LineFields,
+}
+
+/// Appends a row, with its line feed. Whatever is painted, what it says is the row.
 pub fn push_row(
     page: &mut Vec<u8>,
     targets: &Targets,
-    section: PageSection,
-    row: &[u8],
+    shown: &ShownRow<'_>,
 ) -> Result<(), AllocError>
-    ensures { OnOk result (Adds (Leads targets.now) row.now [] page.old.items page.new.items) }
+    ensures { OnOk result (Adds (Leads targets.now) shown.now.text.now [] page.old.items page.new.items) }
 {
-    let (text, feed) = row.split_at(text_length(row));
-    push_row_opening(page, is_flagged(section, row))?;
-    push_painted(page, targets, section, text)?;
-    push_closing(page, Tag::Row)?;
+    let (text, feed) = shown.text.split_at(text_length(shown.text));
+    push_row_opening(page, shown.is_summary, is_flagged(shown.section, text))?;
+    push_columns(page, targets, shown, text)?;
+    push_row_note(page, targets, shown.note)?;
+    push_closing(page, row_tag(shown.is_summary))?;
     push_text(page, feed)?;
     Ok(())
 }
 
 /// The begin of a row, which looks otherwise where it has a flag.
-fn push_row_opening(page: &mut Vec<u8>, is_flagged: bool) -> Result<(), AllocError>
-    ensures { OnOk result (page.new.items ≡ page.old.items ++ opening Tag.Row (row_attributes is_flagged)) }
+fn push_row_opening(
+    page: &mut Vec<u8>,
+    is_summary: bool,
+    is_flagged: bool,
+) -> Result<(), AllocError>
+    ensures { OnOk result (page.new.items ≡ page.old.items ++ opening (row_tag is_summary) (row_attributes is_flagged)) }
 {
+    let tag = row_tag(is_summary);
     if is_flagged {
-        push_opening(page, Tag::Row, &[Attribute::Styled(Style::Flagged)])
+        push_opening(page, tag, &[Attribute::Styled(Style::Flagged)])
     } else {
-        push_opening(page, Tag::Row, &[])
+        push_opening(page, tag, &[])
     }
+}
+
+/// What is told behind a row, if something is.
+fn push_row_note(page: &mut Vec<u8>, targets: &Targets, words: &[u8]) -> Result<(), AllocError>
+    ensures { OnOk result (Adds (Leads targets.now) [] [] page.old.items page.new.items) }
+{
+    if words.is_empty() {
+        return push_plain(page, targets, b"");
+    }
+    push_note(page, targets, Style::Grey, words)
+}
+
+fn row_tag(is_summary: bool) -> Tag
+    ensures { result ≡ row_tag is_summary }
+{
+    if is_summary { Tag::Summary } else { Tag::Row }
 }
 
 /// Whether a row of the listing has a flag.
@@ -72,17 +125,81 @@ fn text_length(row: &[u8]) -> usize
     }
 }
 
+/// The text of a row, of the listing what stands before the line by itself.
+fn push_columns(
+    page: &mut Vec<u8>,
+    targets: &Targets,
+    shown: &ShownRow<'_>,
+    text: &[u8],
+) -> Result<(), AllocError>
+    ensures { OnOk result (Adds (Leads targets.now) text.now [] page.old.items page.new.items) }
+{
+    let width = front_width(shown.section, text);
+    let (front, rest) = text.split_at(width);
+    let painted = PaintedRow {
+        section: shown.section,
+        text,
+        form: shown.form,
+        fields: LineFields::of(rest),
+    };
+    push_front(page, targets, &painted, front)?;
+    push_painted(page, targets, &painted, width, rest)?;
+    Ok(())
+}
+
+/// How wide what stands before the line is, 0 where no line is shown.
+fn front_width(section: PageSection, text: &[u8]) -> usize
+    ensures { result ≤ length text.now }
+{
+    match section {
+        PageSection::Listing => BEFORE_LINE.min(text.len()),
+        _ => 0,
+    }
+}
+
+/// What stands before the line, in an element; nothing where there is none.
+fn push_front(
+    page: &mut Vec<u8>,
+    targets: &Targets,
+    painted: &PaintedRow<'_>,
+    front: &[u8],
+) -> Result<(), AllocError>
+    ensures { OnOk result (Adds (Leads targets.now) front.now [] page.old.items page.new.items) }
+{
+    if front.is_empty() {
+        return push_plain(page, targets, front);
+    }
+    push_full_front(page, targets, painted, front)
+}
+
+fn push_full_front(
+    page: &mut Vec<u8>,
+    targets: &Targets,
+    painted: &PaintedRow<'_>,
+    front: &[u8],
+) -> Result<(), AllocError>
+    ensures { OnOk result (Adds (Leads targets.now) front.now [] page.old.items page.new.items) }
+{
+    push_opening(page, Tag::Front, &[])?;
+    push_painted(page, targets, painted, 0, front)?;
+    push_closing(page, Tag::Front)?;
+    Ok(())
+}
+
+/// A part of a row that begins behind so many of its characters.
 fn push_painted(
     page: &mut Vec<u8>,
     targets: &Targets,
-    section: PageSection,
-    row: &[u8],
+    painted: &PaintedRow<'_>,
+    before: usize,
+    text: &[u8],
 ) -> Result<(), AllocError>
-    ensures { OnOk result (Adds (Leads targets.now) row.now [] page.old.items page.new.items) }
+    ensures { OnOk result (Adds (Leads targets.now) text.now [] page.old.items page.new.items) }
 {
-    let mut rest = row;
+    let mut rest = text;
     while !rest.is_empty() {
-        let stretch = stretch_at(targets, section, row, row.len().saturating_sub(rest.len()));
+        let at = before.saturating_add(text.len().saturating_sub(rest.len()));
+        let stretch = stretch_at(targets, painted, at);
         let (words, behind) = rest.split_at(width_in(stretch.width, rest));
         push_stretch(page, targets, words, stretch.paint)?;
         rest = behind;
@@ -103,7 +220,7 @@ fn push_stretch(
     page: &mut Vec<u8>,
     targets: &Targets,
     words: &[u8],
-    paint: Paint,
+    paint: Paint<'_>,
 ) -> Result<(), AllocError>
     ensures { OnOk result (Adds (Leads targets.now) words.now [] page.old.items page.new.items) }
 {
@@ -111,5 +228,6 @@ fn push_stretch(
         Paint::Plain => push_plain(page, targets, words),
         Paint::Styled(style) => push_styled(page, targets, words, style),
         Paint::Linked(place) => push_link(page, targets, words, place),
+        Paint::Titled(title) => push_titled(page, targets, words, title),
     }
 }

@@ -20,6 +20,10 @@ pub enum Style {
     /// What means little.
     Grey,
     Comment,
+    /// The cause of a flag.
+    Cause,
+    /// A row of a table.
+    Table,
 }
 
 impl Style {
@@ -36,6 +40,8 @@ impl Style {
             Style::Constant => b"K",
             Style::Grey => b"z",
             Style::Comment => b"x",
+            Style::Cause => b"c",
+            Style::Table => b"t",
         }
     }
 }

@@ -12,6 +12,11 @@ pub enum Tag {
     Link,
     /// What stands beside a text.
     Note,
+    /// What stands before the source in a row of the listing.
+    Front,
+    /// Rows that can be folded, behind a summary.
+    Fold,
+    Summary,
 }
 
 impl Tag {
@@ -26,6 +31,9 @@ impl Tag {
             Tag::Part => b"i",
             Tag::Link => b"a",
             Tag::Note => b"small",
+            Tag::Front => b"span",
+            Tag::Fold => b"details",
+            Tag::Summary => b"summary",
         }
     }
 }

@@ -12,7 +12,6 @@ use Rattle.cps_list.specs.Flagged.{flags_text}
 use Rattle.cps_list.specs.ListingText.{line_rows, listing_from, listing_text}
 use Rattle.cps_list.specs.Symbols.{symbols_text}
 use Rattle.cps_list.proofs.ViewLemmas.{drop-next}
-use Rattle.cps_markup.specs.declared.attribute.Attribute.TheVariants.{Identifier}
 use Rattle.cps_markup.specs.declared.place.Place.{Place}
 use Rattle.cps_markup.specs.declared.place.Place.TheVariants.{Line, Symbol, Section}
 use Rattle.cps_markup.specs.declared.place.PageSection.{PageSection}
@@ -21,12 +20,12 @@ use Rattle.cps_markup.specs.declared.tag.Tag.TheVariants as tag
 use Rattle.cps_markup.specs.declared.targets.Entry.{Entry}
 use Rattle.cps_markup.specs.declared.targets.Targets.{Targets}
 use Rattle.cps_markup.specs.Links.{Leads}
-use Rattle.cps_markup.specs.Markup.{Link, written, said, places, links, opening, closing}
+use Rattle.cps_markup.specs.Markup.{identifier, Link, escaped, written, said, places, links, opening, closing}
 use Rattle.cps_markup.specs.PlaceLaws.{IsWritten}
 use Rattle.cps_markup.specs.Places.{same_place}
 use Rattle.cps_markup.specs.Code.Adding.{Adds}
 use Rattle.cps_markup.proofs.AddsLemmas.{adds-joined, adds-nothing, all-none}
-use Rattle.cps_page.specs.Page.{Sections, body, section, IsPage, LeadsHome}
+use Rattle.cps_page.specs.Page.{Sections, body, section, title_text, IsPage, LeadsHome}
 use Rattle.cps_page.specs.Code.Making.{lines_from, symbols_among, all_places, AddsSection, AddsSections, AreTargets}
 use Rattle.cps_page.proofs.EntryLemmas.{found-defined}
 use Rattle.cps_page.proofs.PlaceLemmas.{all-once, all-there, all-written}
@@ -84,54 +83,66 @@ regroup a o i c = simp (append_assoc, append-nil)
 
 module _ (targets : Targets) where
   pub adds-section : (which : PageSection) (words : List ℕ) (here : List Place) (old begun headed later new : List ℕ)
-      → begun ≡ old ++ opening tag.Section (Identifier (Section which) ∷ []) → Adds (Leads targets) [] [] begun headed → Adds (Leads targets) words here headed later
+      → begun ≡ old ++ opening tag.Section (identifier (Section which) ∷ []) → Adds (Leads targets) [] [] begun headed → Adds (Leads targets) words here headed later
       → new ≡ later ++ closing tag.Section → AddsSection targets which words here old new
   adds-section which words here old begun headed later new opened heading inside ended =
       let all = adds-joined (Leads targets) [] words [] here begun headed later heading inside in
       record {
         inside = all.markup;
         whole = ended ∙ ap (λ l. l ++ closing tag.Section) (all.whole ∙ ap (λ l. l ++ written all.markup) opened)
-            ∙ regroup old (opening tag.Section (Identifier (Section which) ∷ [])) (written all.markup) (closing tag.Section);
+            ∙ regroup old (opening tag.Section (identifier (Section which) ∷ [])) (written all.markup) (closing tag.Section);
         same_words = all.same_words;
         same_places = all.same_places;
         good = all.good;
       }
 
-  four : (old a b c d : List ℕ) → old ++ (a ++ []) ++ (b ++ []) ++ (c ++ []) ++ (d ++ []) ≡ old ++ (a ++ (b ++ (c ++ (d ++ []))))
-  four old a b c d = simp (append_assoc, append-nil)
+  six : (old m a b c d e : List ℕ) → old ++ (m ++ []) ++ (a ++ []) ++ (b ++ []) ++ (c ++ []) ++ (d ++ []) ++ (e ++ []) ≡ old ++ (m ++ (a ++ (b ++ (c ++ (d ++ (e ++ []))))))
+  six old m a b c d e = simp (append_assoc, append-nil)
 
-  pub adds-sections : (assembly : Assembly) (old listed worded symboled new : List ℕ)
-      → AddsSection targets page.Listing (listing_text assembly) (lines_from 1 assembly.lines) old listed
+  pub adds-sections : (assembly : Assembly) (old begun listed worded symboled flagged new : List ℕ)
+      → AddsSection targets page.Memory [] [] old begun
+      → AddsSection targets page.Listing (listing_text assembly) (lines_from 1 assembly.lines) begun listed
       → AddsSection targets page.Words (binary_text assembly) [] listed worded
       → AddsSection targets page.Symbols (symbols_text assembly) (symbols_among targets.entries.items) worded symboled
-      → AddsSection targets page.Flags (flags_text assembly) [] symboled new
+      → AddsSection targets page.Flags (flags_text assembly) [] symboled flagged
+      → AddsSection targets page.Instructions [] [] flagged new
       → AddsSections targets assembly old new
-  adds-sections assembly old listed worded symboled new l w s f =
-      let A = opening tag.Section (Identifier (Section page.Listing) ∷ []) ++ written l.inside ++ closing tag.Section in
-      let B = opening tag.Section (Identifier (Section page.Words) ∷ []) ++ written w.inside ++ closing tag.Section in
-      let C = opening tag.Section (Identifier (Section page.Symbols) ∷ []) ++ written s.inside ++ closing tag.Section in
-      let D = opening tag.Section (Identifier (Section page.Flags) ∷ []) ++ written f.inside ++ closing tag.Section in
+  adds-sections assembly old begun listed worded symboled flagged new m l w s f i =
+      let M = opening tag.Section (identifier (Section page.Memory) ∷ []) ++ written m.inside ++ closing tag.Section in
+      let A = opening tag.Section (identifier (Section page.Listing) ∷ []) ++ written l.inside ++ closing tag.Section in
+      let B = opening tag.Section (identifier (Section page.Words) ∷ []) ++ written w.inside ++ closing tag.Section in
+      let C = opening tag.Section (identifier (Section page.Symbols) ∷ []) ++ written s.inside ++ closing tag.Section in
+      let D = opening tag.Section (identifier (Section page.Flags) ∷ []) ++ written f.inside ++ closing tag.Section in
+      let E = opening tag.Section (identifier (Section page.Instructions) ∷ []) ++ written i.inside ++ closing tag.Section in
       record {
-        sections = record { listing = l.inside; words = w.inside; symbols = s.inside; flags = f.inside };
-        whole = f.whole ∙ ap (λ t. t ++ (D ++ [])) (s.whole ∙ ap (λ t. t ++ (C ++ [])) (w.whole ∙ ap (λ t. t ++ (B ++ [])) l.whole)) ∙ four old A B C D;
+        sections = record { memory = m.inside; listing = l.inside; words = w.inside; symbols = s.inside; flags = f.inside; instructions = i.inside };
+        whole = i.whole ∙ ap (λ t. t ++ (E ++ [])) (f.whole ∙ ap (λ t. t ++ (D ++ [])) (s.whole ∙ ap (λ t. t ++ (C ++ []))
+            (w.whole ∙ ap (λ t. t ++ (B ++ [])) (l.whole ∙ ap (λ t. t ++ (A ++ [])) m.whole)))) ∙ six old M A B C D E;
+        memory = m.same_words;
         listing = l.same_words;
         words = w.same_words;
         symbols = s.same_words;
         flags = f.same_words;
-        same_places = λ i. Section page.Listing ∷ (l.same_places i ++ Section page.Words ∷ (w.same_places i ++ Section page.Symbols ∷ (s.same_places i ++ Section page.Flags ∷ (f.same_places i ++ []))));
-        good = All-append (Leads targets) _ _ l.good (All-append (Leads targets) _ _ w.good (All-append (Leads targets) _ _ s.good (All-append (Leads targets) _ _ f.good (all-none (Leads targets)))));
+        instructions = i.same_words;
+        same_places = λ t. Section page.Memory ∷ (m.same_places t ++ Section page.Listing ∷ (l.same_places t ++ Section page.Words ∷ (w.same_places t
+            ++ Section page.Symbols ∷ (s.same_places t ++ Section page.Flags ∷ (f.same_places t ++ Section page.Instructions ∷ (i.same_places t ++ []))))));
+        good = All-append (Leads targets) _ _ m.good (All-append (Leads targets) _ _ l.good (All-append (Leads targets) _ _ w.good
+            (All-append (Leads targets) _ _ s.good (All-append (Leads targets) _ _ f.good (All-append (Leads targets) _ _ i.good (all-none (Leads targets)))))));
       }
 
 -- ---- the page
 
-pub page-of : (assembly : Assembly) (targets : Targets) (front back begun middle new : List ℕ) → AreTargets assembly targets → begun ≡ front → AddsSections targets assembly begun middle
-    → new ≡ middle ++ back → IsPage front back assembly new
-page-of assembly targets front back begun middle new are fronted a backed =
+pub page-of : (assembly : Assembly) (targets : Targets) (front middle back begun made new : List ℕ) → AreTargets assembly targets
+    → begun ≡ front ++ escaped (title_text assembly.finals.program) ++ middle → AddsSections targets assembly begun made
+    → new ≡ made ++ back → IsPage front middle back assembly new
+page-of assembly targets front middle back begun made new are fronted a backed =
     let there : (place : Place) → list_any (same_place place) (all_places assembly.lines targets.entries.items) ≡ list_any (same_place place) (places (body a.sections)) =
     λ place. sym (ap (list_any (same_place place)) a.same_places) in
     record {
       sections = a.sections;
       whole = backed ∙ ap (λ t. t ++ back) (a.whole ∙ ap (λ t. t ++ written (body a.sections)) fronted);
+      memory = a.memory;
+      instructions = a.instructions;
       listing = a.listing;
       words = a.words;
       symbols = a.symbols;

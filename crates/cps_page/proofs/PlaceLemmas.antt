@@ -117,21 +117,25 @@ at place section = cond (same_place place (Section section)) 1 0
 
 abbrev parts : Place → List (List ℕ) → List Entry → ℕ
 parts place lines entries =
-    at place page.Listing + (count_by (same_place place) (lines_from 1 lines)
-    + (at place page.Words + (at place page.Symbols + (count_by (same_place place) (symbols_among entries) + at place page.Flags))))
+    at place page.Memory + (at place page.Listing + (count_by (same_place place) (lines_from 1 lines)
+    + (at place page.Words + (at place page.Symbols + (count_by (same_place place) (symbols_among entries) + (at place page.Flags + at place page.Instructions))))))
 
 all-count : (place : Place) (lines : List (List ℕ)) (entries : List Entry) → count_by (same_place place) (all_places lines entries) ≡ parts place lines entries
 all-count place lines entries =
     let p = same_place place in
-    let flags = Section page.Flags ∷ [] in
+    let instructions = Section page.Instructions ∷ [] in
+    let flags = Section page.Flags ∷ instructions in
     let symbols = Section page.Symbols ∷ (symbols_among entries ++ flags) in
     let words = Section page.Words ∷ symbols in
-    count-cons p (Section page.Listing) (lines_from 1 lines ++ words)
+    let listing = Section page.Listing ∷ (lines_from 1 lines ++ words) in
+    count-cons p (Section page.Memory) listing
+    ∙ ap (λ n. at place page.Memory + n) (count-cons p (Section page.Listing) (lines_from 1 lines ++ words)
     ∙ ap (λ n. at place page.Listing + n) (count-append p (lines_from 1 lines) words
     ∙ ap (λ n. count_by p (lines_from 1 lines) + n) (count-cons p (Section page.Words) symbols
     ∙ ap (λ n. at place page.Words + n) (count-cons p (Section page.Symbols) (symbols_among entries ++ flags)
     ∙ ap (λ n. at place page.Symbols + n) (count-append p (symbols_among entries) flags
-    ∙ ap (λ n. count_by p (symbols_among entries) + n) (count-one p (Section page.Flags))))))
+    ∙ ap (λ n. count_by p (symbols_among entries) + n) (count-cons p (Section page.Flags) instructions
+    ∙ ap (λ n. at place page.Flags + n) (count-one p (Section page.Instructions))))))))
 
 pub all-once : (lines : List (List ℕ)) (entries : List Entry) → ((name : Name) → count_by (is_of name) entries ≤ 1) → (place : Place) → count_by (same_place place) (all_places lines entries) ≤ 1
 all-once lines entries once (Line k) =
@@ -145,6 +149,11 @@ all-once lines entries once (Symbol name) =
     let same = symbols-count name entries in
     let here = once name in
     omega (arith, count, none, same, here)
+all-once lines entries once (Section page.Memory) =
+    let count = all-count (Section page.Memory) lines entries in
+    let none = no-lines-section page.Memory 1 lines in
+    let no_symbol = no-symbols-section page.Memory entries in
+    omega (arith, count, none, no_symbol)
 all-once lines entries once (Section page.Listing) =
     let count = all-count (Section page.Listing) lines entries in
     let none = no-lines-section page.Listing 1 lines in
@@ -164,6 +173,11 @@ all-once lines entries once (Section page.Flags) =
     let count = all-count (Section page.Flags) lines entries in
     let none = no-lines-section page.Flags 1 lines in
     let no_symbol = no-symbols-section page.Flags entries in
+    omega (arith, count, none, no_symbol)
+all-once lines entries once (Section page.Instructions) =
+    let count = all-count (Section page.Instructions) lines entries in
+    let none = no-lines-section page.Instructions 1 lines in
+    let no_symbol = no-symbols-section page.Instructions entries in
     omega (arith, count, none, no_symbol)
 
 -- ---- what links may lead to is there
@@ -188,11 +202,14 @@ all-there lines targets same (Line k) has =
     any-left (same_place (Line k)) (lines_from 1 lines) _ (lines-there k 1 lines has.0 (let below = has.1 in omega (arith, below, same)))
 all-there lines targets same (Symbol name) has =
     any-right (same_place (Symbol name)) (lines_from 1 lines) _ (any-left (same_place (Symbol name)) (symbols_among targets.entries.items) _ (symbols-there name targets.entries.items ∙ has))
+all-there lines targets same (Section page.Memory) has = refl
 all-there lines targets same (Section page.Listing) has = refl
 all-there lines targets same (Section page.Words) has = any-right (same_place (Section page.Words)) (lines_from 1 lines) _ refl
 all-there lines targets same (Section page.Symbols) has = any-right (same_place (Section page.Symbols)) (lines_from 1 lines) _ refl
 all-there lines targets same (Section page.Flags) has =
     any-right (same_place (Section page.Flags)) (lines_from 1 lines) _ (any-right (same_place (Section page.Flags)) (symbols_among targets.entries.items) _ refl)
+all-there lines targets same (Section page.Instructions) has =
+    any-right (same_place (Section page.Instructions)) (lines_from 1 lines) _ (any-right (same_place (Section page.Instructions)) (symbols_among targets.entries.items) _ refl)
 
 -- ---- places are written
 
@@ -213,11 +230,15 @@ section-written section = all-one IsWritten (Section section) tt
 pub all-written : (lines : List (List ℕ)) (entries : List Entry) → length lines < 2 ^ 32 → All (λ (entry : Entry). IsWritten (Symbol entry.name)) entries
     → All IsWritten (all_places lines entries)
 all-written lines entries few written =
-    let flags = Section page.Flags ∷ [] in
+    let instructions = Section page.Instructions ∷ [] in
+    let flags = Section page.Flags ∷ instructions in
     let symbols = Section page.Symbols ∷ (symbols_among entries ++ flags) in
     let words = Section page.Words ∷ symbols in
-    All-append IsWritten (Section page.Listing ∷ []) (lines_from 1 lines ++ words) (section-written page.Listing)
+    let listing = Section page.Listing ∷ (lines_from 1 lines ++ words) in
+    All-append IsWritten (Section page.Memory ∷ []) listing (section-written page.Memory)
+    (All-append IsWritten (Section page.Listing ∷ []) (lines_from 1 lines ++ words) (section-written page.Listing)
     (All-append IsWritten (lines_from 1 lines) words (lines-written 1 lines (omega arith))
     (All-append IsWritten (Section page.Words ∷ []) symbols (section-written page.Words)
     (All-append IsWritten (Section page.Symbols ∷ []) (symbols_among entries ++ flags) (section-written page.Symbols)
-    (All-append IsWritten (symbols_among entries) flags (symbols-written entries written) (section-written page.Flags)))))
+    (All-append IsWritten (symbols_among entries) flags (symbols-written entries written)
+    (All-append IsWritten (Section page.Flags ∷ []) instructions (section-written page.Flags) (section-written page.Instructions)))))))

@@ -1,17 +1,32 @@
-//! An assembled source as a page: one file of HTML, which says the four texts, marked up.
+//! An assembled source as a page: one file of HTML, which says the four texts, marked up, and tells beside them why and what.
 //!
+//! - `beside.rt`: what a page tells beside the texts
+//! - `causes.rt`: the causes of flags, as notes
 //! - `entries.rt`: the symbols to which links can lead
-//! - `frame.rt`: what stands in front of the sections, and behind them
+//! - `expansion.rt`: a line of the listing, with what it expands to
+//! - `flags.rt`: the rows of the flags text
+//! - `frame.rt`: what stands around the title and the sections
+//! - `listed_rows.rt`: rows of the listing
 //! - `listing.rt`: the section of the listing
 //! - `page.rt`: the page
-//! - `sections.rt`: the other sections
+//! - `sections.rt`: the sections
+//! - `tables.rt`: tables beside the texts
+//! - `telling.rt`: what is told beside the rows of a text, as these are gone through
 #![tactic(auto)]
 
+mod beside;
+mod causes;
 mod entries;
+mod expansion;
+mod flags;
 mod frame;
+mod listed_rows;
 mod listing;
 mod page;
 mod sections;
+mod tables;
+mod telling;
 
-pub use frame::{BACK, FRONT};
-pub use page::{make_page, make_page_of};
+pub use beside::{Beside, Block, Cause, Form, FormUse};
+pub use frame::{BACK, FRONT, MIDDLE};
+pub use page::{Frame, make_page, make_page_of};

@@ -1,13 +1,17 @@
 //! The section of the listing.
-ghost use Rattle.std.specs.Prelude.{◌≡◌, [], ◌++◌, IfOk, OnOk};
+ghost use Rattle.std.specs.Prelude.{◌≡◌, [], ◌∷◌, ◌++◌, IfOk, OnOk};
 ghost use Rattle.cps_list.specs.ListingText.{line_rows, listing_from, open_row};
+ghost use Rattle.cps_markup.specs.declared.place.Place.TheVariants.{Line};
 ghost use Rattle.cps_markup.specs.Links.{Leads};
 ghost use Rattle.cps_markup.specs.Code.Adding.{Adds};
 ghost use Rattle.cps_page.specs.Code.Making.{AddsListing, lines_from};
 
+use crate::expansion::push_line;
+use crate::listed_rows::{ListedRows, push_listed_rows};
+use crate::telling::Telling;
 use cps_final::Row;
 use cps_list::{View, push_rows as push_listing_rows};
-use cps_markup::{PageSection, Place, Targets, push_group, push_rows};
+use cps_markup::Targets;
 use std::alloc::{AllocError, Global};
 
 /// The listing: the rows of each line are one place.
@@ -16,11 +20,12 @@ pub fn push_listing<V: View>(
     page: &mut Vec<u8>,
     view: &V,
     targets: &Targets,
+    telling: &mut Telling<'_>,
 ) -> Result<(), AllocError>
     ensures { OnOk result (AddsListing targets.now (V.assembly view.now) page.old.items page.new.items) }
 {
-    push_lines(alloc, page, view, targets)?;
-    push_open_row(page, targets, view.open_at_end())?;
+    push_lines(alloc, page, view, targets, telling)?;
+    push_open_row(alloc, page, targets, telling, view.open_at_end())?;
     Ok(())
 }
 
@@ -29,6 +34,7 @@ fn push_lines<V: View>(
     page: &mut Vec<u8>,
     view: &V,
     targets: &Targets,
+    telling: &mut Telling<'_>,
 ) -> Result<(), AllocError>
     ensures { let source = V.assembly view.now in
         OnOk result (Adds (Leads targets.now) (listing_from 1 source.lines source.outcomes) (lines_from 1 source.lines) page.old.items page.new.items) }
@@ -40,13 +46,13 @@ fn push_lines<V: View>(
         let Some(outcome) = view.outcome(before + 1) else {
             unreachable!();
         };
-        let rows = rows_of(alloc, before + 1, line.bytes(), outcome.rows())?;
-        push_group(
+        let text = rows_of(alloc, before + 1, line.bytes(), outcome.rows())?;
+        push_line(
+            alloc,
             page,
             targets,
-            PageSection::Listing,
-            Place::Line(before + 1),
-            &rows,
+            telling,
+            &ListedRows::of(before + 1, &text),
         )?;
     }
     Ok(())
@@ -61,12 +67,23 @@ fn rows_of(alloc: Global, number: u32, line: &[u8], rows: &[Row]) -> Result<Vec<
     Ok(text)
 }
 
-/// The last row of a source that ends while a range is open.
-fn push_open_row(page: &mut Vec<u8>, targets: &Targets, is_open: bool) -> Result<(), AllocError>
+/// The last row of a source that ends while a range is open, with all causes that are left.
+fn push_open_row(
+    alloc: Global,
+    page: &mut Vec<u8>,
+    targets: &Targets,
+    telling: &mut Telling<'_>,
+    is_open: bool,
+) -> Result<(), AllocError>
     ensures { OnOk result (Adds (Leads targets.now) (open_row is_open) [] page.old.items page.new.items) }
 {
-    let row = open_row(is_open);
-    push_rows(page, targets, PageSection::Listing, row)
+    push_listed_rows(
+        alloc,
+        page,
+        targets,
+        telling,
+        &ListedRows::of(u32::MAX, open_row(is_open)),
+    )
 }
 
 fn open_row(is_open: bool) -> &'static [u8]

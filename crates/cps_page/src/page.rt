@@ -2,41 +2,81 @@
 ghost use Rattle.std.specs.Prelude.{◌≡◌, IfOk, OnOk};
 ghost use Rattle.cps_list.specs.Symbols.{symbols_text};
 ghost use Rattle.cps_page.specs.Code.Making.{AddsSections, AreTargets};
-ghost use Rattle.cps_page.specs.Page.{IsPage, IsPageOf};
+ghost use Rattle.cps_page.specs.Page.{IsPage, IsPageOf, title_text};
 
+use crate::beside::Beside;
 use crate::entries::list_entries;
-use crate::frame::{BACK, FRONT};
-use crate::sections::{push_listing_section, push_symbol_section, push_text_section};
+use crate::frame::{BACK, FRONT, MIDDLE};
+use crate::sections::{
+    push_flag_section, push_instruction_section, push_listing_section, push_memory_section,
+    push_symbol_section, push_word_section,
+};
 use cps_list::{Part, View, make_text};
-use cps_markup::{PageSection, Targets};
+use cps_markup::{Targets, push_text};
+use cps_text::Name;
 use std::alloc::{AllocError, Global};
 
-/// An assembled source as a page: between a front and a back its listing, its words, its symbols and its flags, marked up.
-/// The front opens a document of HTML and the back closes it; `FRONT` and `BACK` do. No date and no name of a file stands
+/// What stands around the title and the sections of a page.
+#[derive(Clone, Copy)]
+pub struct Frame<'a> {
+    /// In front of the title.
+    pub front: &'a [u8],
+    /// Between the title and the sections.
+    pub middle: &'a [u8],
+    pub back: &'a [u8],
+}
+
+/// An assembled source as a page: in a frame its name, and its listing, its words, its symbols and its flags, marked up, with what is told beside them.
+/// The frame makes it a document of HTML; `FRONT`, `MIDDLE` and `BACK` do. No date and no name of a file stands
 /// there, so the same lines give the same page. Fails only without memory.
 pub fn make_page<V: View>(
     alloc: Global,
     view: &V,
-    front: &[u8],
-    back: &[u8],
+    beside: &Beside,
+    frame: &Frame<'_>,
 ) -> Result<Vec<u8>, AllocError>
-    ensures { IfOk result (λ page. IsPage front.now back.now (V.assembly view.now) page.items) }
+    ensures { IfOk result (λ page. IsPage frame.now.front.now frame.now.middle.now frame.now.back.now (V.assembly view.now) page.items) }
 {
     let symbols = make_text(alloc, view, Part::Symbols)?;
     let targets = list_targets(alloc, view, &symbols)?;
+    let making = Making {
+        targets: &targets,
+        beside,
+        symbols: &symbols,
+    };
     let mut page = Vec::new(alloc);
-    page.extend_from_slice(front)?;
-    push_sections(alloc, &mut page, view, &targets, &symbols)?;
-    page.extend_from_slice(back)?;
+    page.extend_from_slice(frame.front)?;
+    push_text(&mut page, title_of(&view.finals().program()))?;
+    page.extend_from_slice(frame.middle)?;
+    push_sections(alloc, &mut page, view, &making)?;
+    page.extend_from_slice(frame.back)?;
     Ok(page)
 }
 
-/// An assembled source as a page, between the front and the back that all pages have.
-#[tactic(auto, unfolding(crate::specs::Page::front, crate::specs::Page::back))]
-pub fn make_page_of<V: View>(alloc: Global, view: &V) -> Result<Vec<u8>, AllocError>
+/// An assembled source as a page, in the frame that all pages have.
+#[tactic(auto, unfolding(crate::specs::Page::front, crate::specs::Page::middle, crate::specs::Page::back))]
+pub fn make_page_of<V: View>(
+    alloc: Global,
+    view: &V,
+    beside: &Beside,
+) -> Result<Vec<u8>, AllocError>
     ensures { IfOk result (λ page. IsPageOf (V.assembly view.now) page.items) }
 {
-    make_page(alloc, view, FRONT, BACK)
+    let frame = Frame {
+        front: FRONT,
+        middle: MIDDLE,
+        back: BACK,
+    };
+    make_page(alloc, view, beside, &frame)
+}
+
+fn title_of(program: &Option<Name>) -> &[u8]
+    ensures { result.now ≡ title_text program.now }
+{
+    match program {
+        Some(name) => name.text(),
+        None => b"COMPASS listing",
+    }
 }
 
 /// The lines and symbols to which links can lead.
@@ -50,22 +90,37 @@ fn list_targets<V: View>(alloc: Global, view: &V, symbols: &[u8]) -> Result<Targ
     })
 }
 
-/// The four sections.
+/// What the sections are made from, beside the source.
+#[derive(Clone, Copy)]
+struct Making<'a> {
+    targets: &'a Targets,
+    beside: &'a Beside,
+    /// The cross-reference.
+    symbols: &'a [u8],
+}
+
+/// The sections.
 fn push_sections<V: View>(
     alloc: Global,
     page: &mut Vec<u8>,
     view: &V,
-    targets: &Targets,
-    symbols: &[u8],
+    making: &Making<'_>,
 ) -> Result<(), AllocError>
-    requires { symbols.now ≡ symbols_text (V.assembly view.now) }
-    ensures { OnOk result (AddsSections targets.now (V.assembly view.now) page.old.items page.new.items) }
+    requires { making.now.symbols.now ≡ symbols_text (V.assembly view.now) }
+    ensures { OnOk result (AddsSections making.now.targets.now (V.assembly view.now) page.old.items page.new.items) }
 {
-    push_listing_section(alloc, page, view, targets)?;
+    let Making {
+        targets,
+        beside,
+        symbols,
+    } = *making;
+    push_memory_section(alloc, page, targets, beside)?;
+    push_listing_section(alloc, page, view, targets, beside)?;
     let words = make_text(alloc, view, Part::Binary)?;
-    push_text_section(page, targets, PageSection::Words, &words)?;
+    push_word_section(page, targets, &words)?;
     push_symbol_section(page, targets, symbols)?;
     let flags = make_text(alloc, view, Part::Flags)?;
-    push_text_section(page, targets, PageSection::Flags, &flags)?;
+    push_flag_section(alloc, page, targets, beside, &flags)?;
+    push_instruction_section(alloc, page, targets, beside)?;
     Ok(())
 }

@@ -1,11 +1,15 @@
 //! The sections of a page.
 ghost use Rattle.std.specs.Prelude.{◌≡◌, [], ◌∷◌, ◌++◌, OnOk};
 ghost use Rattle.cps_markup.specs.Links.{Leads};
-ghost use Rattle.cps_markup.specs.Markup.{opening};
+ghost use Rattle.cps_markup.specs.Markup.{identifier, opening};
 ghost use Rattle.cps_markup.specs.Code.Adding.{Adds};
 ghost use Rattle.cps_page.specs.Code.Making.{AddsListingSection, AddsSection, AddsSymbolSection, symbols_among};
 
+use crate::beside::Beside;
+use crate::flags::push_flags;
 use crate::listing::push_listing;
+use crate::tables::{push_blocks, push_forms};
+use crate::telling::Telling;
 use cps_list::View;
 use cps_markup::{
     Attribute, PageSection, Place, Tag, Targets, push_closing, push_group, push_opening, push_rows,
@@ -13,34 +17,83 @@ use cps_markup::{
 };
 use std::alloc::{AllocError, Global};
 
+/// The section that tells where the blocks of the program stand.
+pub fn push_memory_section(
+    alloc: Global,
+    page: &mut Vec<u8>,
+    targets: &Targets,
+    beside: &Beside,
+) -> Result<(), AllocError>
+    ensures { OnOk result (AddsSection targets.now PageSection.Memory [] [] page.old.items page.new.items) }
+{
+    push_begin(page, PageSection::Memory)?;
+    push_heading(page, targets, b"Memory")?;
+    push_blocks(alloc, page, targets, &beside.blocks)?;
+    push_closing(page, Tag::Section)?;
+    Ok(())
+}
+
 /// The section of the listing.
 pub fn push_listing_section<V: View>(
     alloc: Global,
     page: &mut Vec<u8>,
     view: &V,
     targets: &Targets,
+    beside: &Beside,
 ) -> Result<(), AllocError>
     ensures { OnOk result (AddsListingSection targets.now (V.assembly view.now) page.old.items page.new.items) }
 {
     push_begin(page, PageSection::Listing)?;
     push_heading(page, targets, b"Listing")?;
-    push_listing(alloc, page, view, targets)?;
+    push_listing(alloc, page, view, targets, &mut Telling::of(beside))?;
     push_closing(page, Tag::Section)?;
     Ok(())
 }
 
-/// The section of a text that has no places.
-pub fn push_text_section(
+/// The section of the binary text.
+pub fn push_word_section(
     page: &mut Vec<u8>,
     targets: &Targets,
-    section: PageSection,
     text: &[u8],
 ) -> Result<(), AllocError>
-    ensures { OnOk result (AddsSection targets.now section text.now [] page.old.items page.new.items) }
+    ensures { OnOk result (AddsSection targets.now PageSection.Words text.now [] page.old.items page.new.items) }
 {
-    push_begin(page, section)?;
-    push_heading(page, targets, heading_of(section))?;
-    push_rows(page, targets, section, text)?;
+    push_begin(page, PageSection::Words)?;
+    push_heading(page, targets, b"Words")?;
+    push_rows(page, targets, PageSection::Words, text)?;
+    push_closing(page, Tag::Section)?;
+    Ok(())
+}
+
+/// The section of the flags text, with the causes of the flags.
+pub fn push_flag_section(
+    alloc: Global,
+    page: &mut Vec<u8>,
+    targets: &Targets,
+    beside: &Beside,
+    text: &[u8],
+) -> Result<(), AllocError>
+    ensures { OnOk result (AddsSection targets.now PageSection.Flags text.now [] page.old.items page.new.items) }
+{
+    push_begin(page, PageSection::Flags)?;
+    push_heading(page, targets, b"Flags")?;
+    push_flags(alloc, page, targets, &mut Telling::of(beside), text)?;
+    push_closing(page, Tag::Section)?;
+    Ok(())
+}
+
+/// The section that tells what the instructions do that occur.
+pub fn push_instruction_section(
+    alloc: Global,
+    page: &mut Vec<u8>,
+    targets: &Targets,
+    beside: &Beside,
+) -> Result<(), AllocError>
+    ensures { OnOk result (AddsSection targets.now PageSection.Instructions [] [] page.old.items page.new.items) }
+{
+    push_begin(page, PageSection::Instructions)?;
+    push_heading(page, targets, b"Instructions")?;
+    push_forms(alloc, page, targets, &beside.forms)?;
     push_closing(page, Tag::Section)?;
     Ok(())
 }
@@ -81,7 +134,7 @@ fn push_symbols(page: &mut Vec<u8>, targets: &Targets, text: &[u8]) -> Result<()
 
 /// The begin of a section.
 fn push_begin(page: &mut Vec<u8>, section: PageSection) -> Result<(), AllocError>
-    ensures { OnOk result (page.new.items ≡ page.old.items ++ opening Tag.Section (Attribute.Identifier (Place.Section section) ∷ [])) }
+    ensures { OnOk result (page.new.items ≡ page.old.items ++ opening Tag.Section (identifier (Place.Section section) ∷ [])) }
 {
     push_opening(
         page,
@@ -97,13 +150,4 @@ fn push_heading(page: &mut Vec<u8>, targets: &Targets, words: &[u8]) -> Result<(
     push_text(page, words)?;
     push_closing(page, Tag::Heading)?;
     Ok(())
-}
-
-fn heading_of(section: PageSection) -> &'static [u8] {
-    match section {
-        PageSection::Listing => b"Listing",
-        PageSection::Words => b"Words",
-        PageSection::Symbols => b"Symbols",
-        PageSection::Flags => b"Flags",
-    }
 }

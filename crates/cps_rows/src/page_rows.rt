@@ -2,9 +2,9 @@
 use super::part_rows::enter_source;
 use super::text_assertions::assert_row;
 use cps_live::Session;
-use cps_page::make_page;
+use cps_page::{Beside, Block, Cause, Form, FormUse, Frame, make_page};
 use cps_state::Hashing;
-use std::alloc::Global;
+use std::alloc::{AllocError, Global};
 
 const PROGRAM: &str = "         IDENT   T1
          ABS
@@ -15,26 +15,77 @@ START    SA1     B1+3
          END
 ";
 
-/// Lines lead to themselves, a symbol in the location field to its row, one that is read to its definition.
-const PAGE: &str = "<<section id=\"listing\"><h2>Listing</h2>\
-<div id=\"1\"><div>                                          <a href=\"#1\">1</a>          IDENT   T1</div>
-</div><div id=\"2\"><div>                                          <a href=\"#2\">2</a>          ABS</div>
-</div><div id=\"3\"><div>         <i class=\"z\">000100</i>                           <a href=\"#3\">3</a>          ORG     100B</div>
-</div><div id=\"4\"><div>         <i class=\"z\">000100</i> 51<i class=\"i\">1</i><i class=\"j\">1</i><i class=\"K\">000003</i>                <a href=\"#4\">4</a> <a href=\"#START\">START</a>    SA1     B1+3</div>
-</div><div id=\"5\"><div>         <i class=\"z\">000100</i> 04<i class=\"i\">0</i><i class=\"j\">0</i><i class=\"K\">000100</i>                <a href=\"#5\">5</a>          EQ      <a href=\"#4\">START</a></div>
-</div><div id=\"6\"><div>                                          <a href=\"#6\">6</a> <i class=\"x\">* &lt;&amp;&gt;</i></div>
-</div><div id=\"7\"><div>                                          <a href=\"#7\">7</a>          END</div>
+/// Lines lead to themselves, a symbol in the location field to its row, one that is read to its definition. What stands beside the texts is in notes.
+const PAGE: &str = "<T1|<section id=\"memory\"><h2>Memory</h2>\
+<small class=\"t\">nominal   000100    2 words       ...............................................#</small>\
+</section><section id=\"listing\"><h2>Listing</h2>\
+<div id=\"1\"><div><span>                                          <a href=\"#1\">1</a> </span>         IDENT   T1</div>
+</div><div id=\"2\"><div><span>                                          <a href=\"#2\">2</a> </span>         ABS</div>
+</div><div id=\"3\"><div><span>         <i class=\"z\">000100</i>                           <a href=\"#3\">3</a> </span>         ORG     100B</div>
+</div><div id=\"4\"><div><span>         <i class=\"z\">000100</i> 51<i class=\"i\">1</i><i class=\"j\">1</i><i class=\"K\">000003</i>                <a href=\"#4\">4</a> </span>\
+<a href=\"#START\">START</a>    <i title=\"&lt;set&gt;\">SA1</i>     B1+3</div>
+</div><div id=\"5\"><div><span>         <i class=\"z\">000100</i> 0400000100                <a href=\"#5\">5</a> </span>         EQ      <a href=\"#4\">START</a></div>
+<small class=\"c\">U a &amp; b</small></div><div id=\"6\"><div><span>                                          <a href=\"#6\">6</a> </span><i class=\"x\">* &lt;&amp;&gt;</i></div>
+</div><div id=\"7\"><div><span>                                          <a href=\"#7\">7</a> </span>         END</div>
 </div></section><section id=\"words\"><h2>Words</h2><div>IDENT T1</div>
 <div><i class=\"z\">000100</i> 51110000030400000100</div>
 </section><section id=\"symbols\"><h2>Symbols</h2><div id=\"START\"><div><a href=\"#4\">START</a>    <i class=\"z\">00000000000000000100 </i><a href=\"#4\">4</a> <a href=\"#5\">5</a></div>
 </div></section><section id=\"flags\"><h2>Flags</h2><div>0 flagged lines</div>
-</section>>";
+</section><section id=\"instructions\"><h2>Instructions</h2>\
+<small class=\"t\">SAi    Bj+K       51ijKKKKKK  1        &lt;set&gt;</small></section>>";
 
-/// The page of a source between `<` and `>`. It is empty where there is no memory.
+/// A text of its own.
+fn text(alloc: Global, words: &[u8]) -> Result<Vec<u8>, AllocError> {
+    let mut text = Vec::new(alloc);
+    text.extend_from_slice(words)?;
+    Ok(text)
+}
+
+/// Of the fourth line its form, of the fifth a cause, and a block.
+fn beside(alloc: Global) -> Result<Beside, AllocError> {
+    let mut beside = Beside::nothing(alloc);
+    beside.forms.push(Form {
+        name: text(alloc, b"SAi")?,
+        operands: text(alloc, b"Bj+K")?,
+        code: text(alloc, b"51ijKKKKKK")?,
+        sentence: b"<set>",
+        count: 1,
+    })?;
+    beside.uses.push(FormUse {
+        line: 4,
+        row: 0,
+        form: 0,
+    })?;
+    beside.causes.push(Cause {
+        line: 5,
+        letter: b'U',
+        statement: Vec::new(alloc),
+        words: text(alloc, b"a & b")?,
+    })?;
+    beside.blocks.push(Block {
+        name: text(alloc, b"nominal")?,
+        address: 64,
+        words: 2,
+    })?;
+    Ok(beside)
+}
+
+/// The page of a session between `<`, `|` and `>`.
+fn page_in(alloc: Global, session: &Session) -> Result<Vec<u8>, AllocError> {
+    let beside = beside(alloc)?;
+    let frame = Frame {
+        front: b"<",
+        middle: b"|",
+        back: b">",
+    };
+    make_page(alloc, session, &beside, &frame)
+}
+
+/// The page of a source. It is empty where there is no memory.
 fn page_of(alloc: Global, source: &str) -> Vec<u8> {
     let mut session = Session::new(alloc, Hashing::by(1));
     enter_source(alloc, &mut session, source);
-    let page = make_page(alloc, &session, b"<", b">");
+    let page = page_in(alloc, &session);
     drop(session);
     page.unwrap_or(Vec::new(alloc))
 }

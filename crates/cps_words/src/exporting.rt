@@ -13,7 +13,7 @@ use crate::writing::write_outputs;
 use cps_batch::Source;
 use cps_input::read_lines;
 use cps_list::{ListFault, Part, make_text, write_text};
-use cps_page::make_page_of;
+use cps_page::{Beside, make_page_of};
 use cps_text::limits::MOST_READS;
 use cps_text::{Counted, Line};
 use std::alloc::{AllocError, Global};
@@ -92,7 +92,7 @@ fn wanted_page(alloc: Global, source: &Source, outputs: Outputs<'_>) -> Result<V
     ensures { IfOk result (λ page. IsPageFor (names_of outputs.entry) source.now page.items) }
 {
     match outputs.page {
-        Some(_) => make_page_of(alloc, source),
+        Some(_) => make_page_of(alloc, source, &Beside::nothing(alloc)),
         None => Ok(Vec::new(alloc)),
     }
 }

@@ -51,7 +51,8 @@ symbols_among entries = map (λ entry. Symbol entry.name) entries
 -- all places of a page
 abbrev pub all_places : List (List ℕ) → List Entry → List Place
 all_places lines entries =
-    Section page.Listing ∷ (lines_from 1 lines ++ Section page.Words ∷ (Section page.Symbols ∷ (symbols_among entries ++ Section page.Flags ∷ [])))
+    Section page.Memory ∷ (Section page.Listing ∷ (lines_from 1 lines ++ Section page.Words ∷ (Section page.Symbols
+    ∷ (symbols_among entries ++ Section page.Flags ∷ (Section page.Instructions ∷ [])))))
 
 -- ---- sections
 
@@ -74,14 +75,16 @@ AddsListingSection targets assembly old new = AddsSection targets page.Listing (
 abbrev pub AddsSymbolSection : Targets → List ℕ → List ℕ → List ℕ → Type 0
 AddsSymbolSection targets text old new = AddsSection targets page.Symbols text (symbols_among targets.entries.items) old new
 
--- a page has the four sections more
+-- a page has the sections more
 pub record AddsSections (targets : Targets) (assembly : Assembly) (old new : List ℕ) : Type 0 where
   pub sections : Sections
   pub whole : new ≡ old ++ written (body sections)
+  pub memory : said sections.memory ≡ []
   pub listing : said sections.listing ≡ listing_text assembly
   pub words : said sections.words ≡ binary_text assembly
   pub symbols : said sections.symbols ≡ symbols_text assembly
   pub flags : said sections.flags ≡ flags_text assembly
+  pub instructions : said sections.instructions ≡ []
   pub same_places : places (body sections) ≡ all_places assembly.lines targets.entries.items
   pub good : All (Leads targets) (links (body sections))
 

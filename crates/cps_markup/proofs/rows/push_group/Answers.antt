@@ -1,12 +1,12 @@
 use Rattle.std.proofs.Common.{[], ◌∷◌}
-use Rattle.cps_markup.specs.declared.attribute.Attribute.TheVariants.{Identifier}
 use Rattle.cps_markup.specs.declared.tag.Tag.TheVariants as tag
 use Rattle.cps_markup.specs.Links.{Leads}
+use Rattle.cps_markup.specs.Markup.{identifier}
 use Rattle.cps_markup.proofs.AddsLemmas.{adds-element, all-none}
 use Rattle.cps_markup.proofs.rows.push_group.Goals as goal
 
 pub returns : goal.returns
 returns c =
     let P = Leads c.args.targets.now in
-    adds-element P tag.Row (Identifier c.args.place ∷ []) c.args.rows.now [] c.args.page.now.items c.push_opening.new.page.items c.push_rows.new.page.items c.push_closing.new.page.items
+    adds-element P tag.Row (identifier c.args.place ∷ []) c.args.rows.now [] c.args.page.now.items c.push_opening.new.page.items c.push_rows.new.page.items c.push_closing.new.page.items
     c.in_ok-push_opening.ensures c.in_ok-push_rows.ensures c.in_ok-push_closing.ensures (all-none P)

@@ -5,7 +5,7 @@ use Rattle.cps_markup.proofs.stretch.push_painted.Given as goal
 
 -- what says the rest says the whole
 abbrev pub invariant-loop-rest : goal.invariant-loop-rest
-invariant-loop-rest l = (last : List ℕ) → Adds (Leads l.targets) l.rest [] l.page.items last → Adds (Leads l.targets) l.row [] l.fn.page.items last
+invariant-loop-rest l = (last : List ℕ) → Adds (Leads l.targets) l.rest [] l.page.items last → Adds (Leads l.targets) l.text [] l.fn.page.items last
 
 abbrev pub decreases-loop-rest : goal.decreases-loop-rest
 decreases-loop-rest l = length l.rest

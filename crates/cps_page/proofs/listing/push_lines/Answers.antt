@@ -1,15 +1,19 @@
-use Rattle.std.proofs.Common.{◌≤◌, length, arith, ◌∙◌}
+use Rattle.std.proofs.Common.{◌+◌, ◌≤◌, [], ◌∷◌, ap, length, arith, refl, ◌∙◌}
+use Rattle.cps_markup.specs.declared.place.Place.TheVariants.{Line}
 use Rattle.cps_markup.specs.Links.{Leads}
-use Rattle.cps_page.proofs.PageLemmas.{adds-line, adds-lines-end}
+use Rattle.cps_page.proofs.PageLemmas.{adds-line, adds-lines-end, adds-same}
 use Rattle.cps_page.proofs.listing.push_lines.Goals as goal
 
 pub loop-before-preserved : goal.loop-before-preserved
 loop-before-preserved g c = λ last later.
     let source = g.V.View.assembly c.args.view.now in
+    let P = Leads c.args.targets.now in
+    let rows = c.of.result.text.now in
+    let here = adds-same P rows rows (Line c.of.result.line ∷ []) (Line (c.loop-before.before + 1) ∷ []) _ _ refl (ap (λ n. Line n ∷ []) c.of.ensures.line) c.in_ok-push_line.ensures in
     c.loop-before.invariant last
-    (adds-line (Leads c.args.targets.now) source.lines source.outcomes c.loop-before.before c.in-Some.line.now c.bytes.result.now c.in-Some-outcome.outcome.now c.rows.result.now
-    c.deref.result.now c.loop-before.page.items c.push_group.new.page.items last
-    c.in-Some.ensures.line c.in-Some-outcome.ensures.outcome c.bytes.ensures.value c.rows.ensures (c.deref.ensures.value ∙ c.in_ok-rows.ensures) c.in_ok-push_group.ensures later)
+    (adds-line P source.lines source.outcomes c.loop-before.before c.in-Some.line.now c.bytes.result.now c.in-Some-outcome.outcome.now c.rows.result.now
+    rows c.loop-before.page.items c.push_line.new.page.items last
+    c.in-Some.ensures.line c.in-Some-outcome.ensures.outcome c.bytes.ensures.value c.rows.ensures (c.of.ensures.text ∙ c.deref.ensures.value ∙ c.in_ok-text.ensures) here later)
 
 pub returns : goal.returns
 returns g c =

@@ -1,0 +1,8 @@
+use Rattle.cps_markup.specs.declared.place.PageSection.TheVariants as page
+use Rattle.cps_page.proofs.PageLemmas.{adds-section}
+use Rattle.cps_page.proofs.sections.push_flag_section.Goals as goal
+
+pub returns : goal.returns
+returns c =
+    adds-section c.args.targets.now page.Flags _ _ c.args.page.now.items c.push_begin.new.page.items c.push_heading.new.page.items c.push_flags.new.page.items c.push_closing.new.page.items
+    c.in_ok-push_begin.ensures c.in_ok-push_heading.ensures c.in_ok-push_flags.ensures c.in_ok-push_closing.ensures

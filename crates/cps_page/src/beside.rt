@@ -1,0 +1,73 @@
+//! What a page tells beside the texts. No contract says anything of it.
+use std::alloc::Global;
+
+/// A cause of a line's flag.
+#[derive(Drop)]
+pub struct Cause {
+    /// The number of the line, from 1; one more than that of the last where the source ends while a range is open.
+    pub line: u32,
+    pub letter: u8,
+    /// The statement that has the flag, where it stands in the line's expansion; else nothing.
+    pub statement: Vec<u8>,
+    /// Why, as a sentence without its point.
+    pub words: Vec<u8>,
+}
+
+/// A form of an instruction that occurs.
+#[derive(Drop)]
+pub struct Form {
+    /// With i for the digit of a register.
+    pub name: Vec<u8>,
+    pub operands: Vec<u8>,
+    /// Its octal code, with letters for the fields, in the columns of the listing.
+    pub code: Vec<u8>,
+    /// What it does; empty where nothing is told of it.
+    pub sentence: &'static [u8],
+    /// How often it occurs.
+    pub count: u32,
+}
+
+/// Which form a row of the listing has.
+#[derive(Clone, Copy)]
+pub struct FormUse {
+    /// The number of the line, from 1.
+    pub line: u32,
+    /// How many rows of the line stand before it.
+    pub row: u32,
+    /// How many forms stand before it.
+    pub form: u32,
+}
+
+/// Words of memory that stand together.
+#[derive(Drop)]
+pub struct Block {
+    pub name: Vec<u8>,
+    /// The address of its first word.
+    pub address: u64,
+    /// How many words it has.
+    pub words: u64,
+}
+
+/// What a page tells beside the texts.
+#[derive(Drop)]
+pub struct Beside {
+    /// By their lines.
+    pub causes: Vec<Cause>,
+    pub forms: Vec<Form>,
+    /// By their lines and rows.
+    pub uses: Vec<FormUse>,
+    /// By their addresses.
+    pub blocks: Vec<Block>,
+}
+
+impl Beside {
+    /// Nothing. Takes no memory.
+    pub fn nothing(alloc: Global) -> Beside {
+        Beside {
+            causes: Vec::new(alloc),
+            forms: Vec::new(alloc),
+            uses: Vec::new(alloc),
+            blocks: Vec::new(alloc),
+        }
+    }
+}

@@ -1,0 +1,150 @@
+//! Tables beside the texts: the blocks of memory, and the forms of instructions. They are notes.
+ghost use Rattle.std.specs.Prelude.{◌≡◌, [], OnOk};
+ghost use Rattle.cps_markup.specs.Links.{Leads};
+ghost use Rattle.cps_markup.specs.Code.Adding.{Adds};
+
+use crate::beside::{Block, Form};
+use cps_list::{fill_columns, push_decimal};
+use cps_markup::{Style, Targets, push_note};
+use cps_text::push_octal;
+use std::alloc::{AllocError, Global};
+use std::cmp::Ordering;
+
+/// The columns before an address, before a number of words and before a bar.
+const BEFORE_ADDRESS: usize = 10;
+
+const BEFORE_WORDS: usize = 20;
+
+const BEFORE_BAR: usize = 34;
+
+/// How many columns the bar of the whole memory has.
+const BAR_COLUMNS: u64 = 48;
+
+const ADDRESS_DIGITS: u8 = 6;
+
+/// The columns of a form before its operands, before its code, before its number and before what it does.
+const BEFORE_OPERANDS: usize = 7;
+
+const BEFORE_CODE: usize = 18;
+
+const BEFORE_COUNT: usize = 30;
+
+const BEFORE_SENTENCE: usize = 39;
+
+/// Appends the table of blocks: where they stand, how many words they have, and a bar.
+pub fn push_blocks(
+    alloc: Global,
+    page: &mut Vec<u8>,
+    targets: &Targets,
+    blocks: &[Block],
+) -> Result<(), AllocError>
+    ensures { OnOk result (Adds (Leads targets.now) [] [] page.old.items page.new.items) }
+{
+    let end = end_of(blocks);
+    for block in blocks {
+        let row = block_row(alloc, block, end)?;
+        push_note(page, targets, Style::Table, &row)?;
+    }
+    Ok(())
+}
+
+/// The address behind all blocks.
+fn end_of(blocks: &[Block]) -> u64 {
+    let mut end: u64 = 0;
+    for block in blocks {
+        end = end.max(block.address.saturating_add(block.words));
+    }
+    end
+}
+
+fn block_row(alloc: Global, block: &Block, end: u64) -> Result<Vec<u8>, AllocError> {
+    let mut row = Vec::new(alloc);
+    row.extend_from_slice(&block.name)?;
+    fill_columns(&mut row, 0, BEFORE_ADDRESS)?;
+    push_octal(&mut row, block.address, ADDRESS_DIGITS)?;
+    fill_columns(&mut row, 0, BEFORE_WORDS)?;
+    push_decimal(&mut row, block.words)?;
+    row.extend_from_slice(b" words")?;
+    fill_columns(&mut row, 0, BEFORE_BAR)?;
+    push_bar(&mut row, block, end)?;
+    Ok(row)
+}
+
+/// Appends the memory up to an address, with `#` where a block is.
+fn push_bar(row: &mut Vec<u8>, block: &Block, end: u64) -> Result<(), AllocError> {
+    let behind = block.address.saturating_add(block.words);
+    for column in 0..BAR_COLUMNS {
+        let first = share(column, end);
+        let next = share(column + 1, end).max(first.saturating_add(1));
+        let is_block = first < behind && block.address < next;
+        row.push(if is_block { b'#' } else { b'.' })?;
+    }
+    Ok(())
+}
+
+/// The address at which a column of the bar begins.
+fn share(column: u64, end: u64) -> u64 {
+    column.saturating_mul(end) / BAR_COLUMNS
+}
+
+/// Appends the table of forms: operands, code, how often each occurs, and what it does.
+pub fn push_forms(
+    alloc: Global,
+    page: &mut Vec<u8>,
+    targets: &Targets,
+    forms: &[Form],
+) -> Result<(), AllocError>
+    ensures { OnOk result (Adds (Leads targets.now) [] [] page.old.items page.new.items) }
+{
+    let mut last = None;
+    for _ in 0..forms.len() {
+        let Some(form) = next_form(forms, last) else {
+            return Ok(());
+        };
+        let row = form_row(alloc, form)?;
+        push_note(page, targets, Style::Table, &row)?;
+        last = Some(form);
+    }
+    Ok(())
+}
+
+/// The first form behind another one, by name and code.
+fn next_form<'a>(forms: &'a [Form], last: Option<&Form>) -> Option<&'a Form> {
+    let mut next: Option<&'a Form> = None;
+    for form in forms {
+        let is_left = match last {
+            Some(last) => is_before(last, form),
+            None => true,
+        };
+        let is_first = match next {
+            Some(next) => is_before(form, next),
+            None => true,
+        };
+        if is_left && is_first {
+            next = Some(form);
+        }
+    }
+    next
+}
+
+fn is_before(form: &Form, other: &Form) -> bool {
+    let names = form.name.as_slice().cmp(other.name.as_slice());
+    match names.then(form.code.as_slice().cmp(other.code.as_slice())) {
+        Ordering::Less => true,
+        Ordering::Equal | Ordering::Greater => false,
+    }
+}
+
+fn form_row(alloc: Global, form: &Form) -> Result<Vec<u8>, AllocError> {
+    let mut row = Vec::new(alloc);
+    row.extend_from_slice(&form.name)?;
+    fill_columns(&mut row, 0, BEFORE_OPERANDS)?;
+    row.extend_from_slice(&form.operands)?;
+    fill_columns(&mut row, 0, BEFORE_CODE)?;
+    row.extend_from_slice(&form.code)?;
+    fill_columns(&mut row, 0, BEFORE_COUNT)?;
+    push_decimal(&mut row, u64::from(form.count))?;
+    fill_columns(&mut row, 0, BEFORE_SENTENCE)?;
+    row.extend_from_slice(form.sentence)?;
+    Ok(row)
+}

@@ -1,0 +1,100 @@
+//! What is told beside the rows of a text, as these are gone through.
+use crate::beside::{Beside, Cause, FormUse};
+use cps_markup::RowForm;
+
+/// The columns of flags.
+const FLAG_COLUMNS: usize = 8;
+
+/// The columns of the listing before the line.
+const BEFORE_LINE: usize = 44;
+
+/// What is told beside a text, up to a row.
+#[derive(Drop)]
+pub struct Telling<'a> {
+    beside: &'a Beside,
+    /// How many causes are told.
+    told: usize,
+    /// How many uses of forms are passed.
+    passed: usize,
+}
+
+impl<'a> Telling<'a> {
+    /// Nothing is told yet.
+    pub fn of(beside: &'a Beside) -> Telling<'a> {
+        Telling {
+            beside,
+            told: 0,
+            passed: 0,
+        }
+    }
+
+    /// How many causes aren't told yet.
+    pub fn left(&self) -> usize {
+        self.beside.causes.len().saturating_sub(self.told)
+    }
+
+    /// The next cause of a line up to this one, or of its row: of the letters that the row has, and of its statement. It is told now.
+    pub fn take_cause(&mut self, line: u32, row: Option<&[u8]>) -> Option<&'a Cause> {
+        let cause = self.beside.causes.get(self.told)?;
+        if cause.line > line || !is_of_row(cause, row) {
+            return None;
+        }
+        self.told = self.told.saturating_add(1);
+        Some(cause)
+    }
+
+    /// Whether a line has a cause that isn't told yet.
+    pub fn has_cause(&self, line: u32) -> bool {
+        match self.beside.causes.get(self.told) {
+            Some(cause) => cause.line <= line,
+            None => false,
+        }
+    }
+
+    /// The form of a row of a line, before which so many stand. The rows before it are passed.
+    pub fn form_at(&mut self, line: u32, row: u32) -> Option<RowForm<'a>> {
+        let mut form = None;
+        for _ in 0..2 {
+            let Some(used) = self.beside.uses.get(self.passed) else {
+                return form;
+            };
+            if is_behind(used, line, row) {
+                return form;
+            }
+            if used.line == line && used.row == row {
+                form = self.form(used.form);
+            }
+            self.passed = self.passed.saturating_add(1);
+        }
+        form
+    }
+
+    fn form(&self, before: u32) -> Option<RowForm<'a>> {
+        let form = self.beside.forms.get(before as usize)?;
+        Some(RowForm {
+            code: form.code.as_slice(),
+            sentence: form.sentence,
+        })
+    }
+}
+
+/// Whether the use of a form stands behind a row of a line.
+fn is_behind(used: &FormUse, line: u32, row: u32) -> bool {
+    used.line > line || (used.line == line && used.row > row)
+}
+
+/// Whether a cause is one of a row, if there is one.
+fn is_of_row(cause: &Cause, row: Option<&[u8]>) -> bool {
+    match row {
+        Some(row) => is_of(cause, row),
+        None => true,
+    }
+}
+
+/// Whether a row has the letter of a cause, and shows its statement. A later row of a statement shows none.
+fn is_of(cause: &Cause, row: &[u8]) -> bool {
+    let (flags, _) = row.split_at(FLAG_COLUMNS.min(row.len()));
+    let (_, shown) = row.split_at(BEFORE_LINE.min(row.len()));
+    flags.contains(&cause.letter)
+        && (cause.statement.is_empty() || shown.len() < 2 || shown.starts_with(&cause.statement))
+}
