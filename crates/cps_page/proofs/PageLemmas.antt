@@ -1,6 +1,6 @@
 -- A page from its sections, and sections from their rows.
-use Rattle.std.proofs.Common.{◌≡◌, ℕ, suc, ◌+◌, ◌-◌, ◌≤◌, ◌<◌, refl, sym, ap, subst, ◌∙◌, List, [], ◌∷◌, ◌++◌, append-nil, append_assoc, get_or, take, drop, length, arith}
-use Rattle.std.specs.Prelude.{All, IsTrue, Some, slice_get, count_by}
+use Rattle.std.proofs.Common.{◌≡◌, ℕ, suc, ◌+◌, ◌-◌, ◌≤◌, ◌<◌, sym, ap, subst, ◌∙◌, List, [], ◌∷◌, ◌++◌, append-nil, append_assoc, get_or, take, drop, length, arith}
+use Rattle.std.specs.Prelude.{All, Some, slice_get, count_by}
 use Rattle.std.specs.List.{list_any}
 use Rattle.std.proofs.lemmas.List.{at_drop_more, drop_all, take-append-drop}
 use Rattle.std.proofs.lemmas.List.Elements.{All-append}
@@ -20,12 +20,12 @@ use Rattle.cps_markup.specs.declared.tag.Tag.TheVariants as tag
 use Rattle.cps_markup.specs.declared.targets.Entry.{Entry}
 use Rattle.cps_markup.specs.declared.targets.Targets.{Targets}
 use Rattle.cps_markup.specs.Links.{Leads}
-use Rattle.cps_markup.specs.Markup.{identifier, Link, escaped, written, said, places, links, opening, closing}
+use Rattle.cps_markup.specs.Markup.{identifier, Link, escaped, written, places, links, opening, closing}
 use Rattle.cps_markup.specs.PlaceLaws.{IsWritten}
 use Rattle.cps_markup.specs.Places.{same_place}
 use Rattle.cps_markup.specs.Code.Adding.{Adds}
 use Rattle.cps_markup.proofs.AddsLemmas.{adds-joined, adds-nothing, all-none}
-use Rattle.cps_page.specs.Page.{Sections, body, section, title_text, IsPage, LeadsHome}
+use Rattle.cps_page.specs.Page.{body, title_text, IsPage}
 use Rattle.cps_page.specs.Code.Making.{lines_from, symbols_among, all_places, AddsSection, AddsSections, AreTargets}
 use Rattle.cps_page.proofs.EntryLemmas.{found-defined}
 use Rattle.cps_page.proofs.PlaceLemmas.{all-once, all-there, all-written}

@@ -22,7 +22,7 @@ pub struct Form {
     /// Its octal code, with letters for the fields, in the columns of the listing.
     pub code: Vec<u8>,
     /// What it does; empty where nothing is told of it.
-    pub sentence: &'static [u8],
+    pub sentence: Vec<u8>,
     /// How often it occurs.
     pub count: u32,
 }

@@ -115,7 +115,7 @@ fn next_form<'a>(forms: &'a [Form], last: Option<&Form>) -> Option<&'a Form> {
         let is_left = match last {
             Some(last) => is_before(last, form),
             None => true,
-        };
+        } && form.count > 0;
         let is_first = match next {
             Some(next) => is_before(form, next),
             None => true,
@@ -145,6 +145,6 @@ fn form_row(alloc: Global, form: &Form) -> Result<Vec<u8>, AllocError> {
     fill_columns(&mut row, 0, BEFORE_COUNT)?;
     push_decimal(&mut row, u64::from(form.count))?;
     fill_columns(&mut row, 0, BEFORE_SENTENCE)?;
-    row.extend_from_slice(form.sentence)?;
+    row.extend_from_slice(&form.sentence)?;
     Ok(row)
 }

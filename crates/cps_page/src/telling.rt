@@ -73,7 +73,7 @@ impl<'a> Telling<'a> {
         let form = self.beside.forms.get(before as usize)?;
         Some(RowForm {
             code: form.code.as_slice(),
-            sentence: form.sentence,
+            sentence: form.sentence.as_slice(),
         })
     }
 }

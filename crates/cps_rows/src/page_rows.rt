@@ -48,7 +48,7 @@ fn beside(alloc: Global) -> Result<Beside, AllocError> {
         name: text(alloc, b"SAi")?,
         operands: text(alloc, b"Bj+K")?,
         code: text(alloc, b"51ijKKKKKK")?,
-        sentence: b"<set>",
+        sentence: text(alloc, b"<set>")?,
         count: 1,
     })?;
     beside.uses.push(FormUse {

@@ -1,4 +1,4 @@
-use Rattle.std.proofs.Common.{[], ◌∷◌, ◌++◌, subst, sym, List}
+use Rattle.std.proofs.Common.{subst, sym, List}
 use Rattle.std.specs.Prelude.{Some}
 use Rattle.cps_markup.specs.declared.targets.Entry.{Entry}
 use Rattle.cps_page.specs.Code.Making.{AreEntriesTo}
