@@ -1,0 +1,19 @@
+//! What a page tells beside the texts of a source: the causes of its flags, what its instructions do, and where its blocks stand. It is told to be
+//! read, and no contract says anything of it.
+//!
+//! - `blocks.rt`: where the blocks of a source stand
+//! - `causes.rt`: why lines are flagged
+//! - `forms.rt`: the forms of the instructions that occur
+//! - `known_places.rt`: in which lines stands what words speak of
+//! - `manual_rows.rt`: the forms of an operation, read from what the manual tells of it
+//! - `telling.rt`: all that is told
+#![tactic(auto)]
+
+mod blocks;
+mod causes;
+mod forms;
+mod known_places;
+mod manual_rows;
+mod telling;
+
+pub use telling::tell_beside;
