@@ -2,6 +2,8 @@
 ghost use Rattle.std.specs.Prelude.{◌≡◌, ◌≤◌, ◌+◌, IfOk, OnOk, OnErr, option_map};
 ghost use Rattle.cps_text.specs.Counted.{calls_of};
 ghost use Rattle.cps_input.specs.Sources.{IsSource};
+ghost use Rattle.cps_edit.specs.Assembly.{assembly_of};
+ghost use Rattle.cps_page.specs.Page.{IsPageOf};
 ghost use Rattle.cps_words.specs.Outputs.{names_of};
 ghost use Rattle.cps_words.specs.Export.{Exports, IsPageFor, Makes, WritesAll, WritesFront, part_text, wanted_of};
 
@@ -11,9 +13,10 @@ use crate::outputs::Outputs;
 use crate::targets::Targets;
 use crate::writing::write_outputs;
 use cps_batch::Source;
+use cps_beside::tell_beside;
 use cps_input::read_lines;
 use cps_list::{ListFault, Part, make_text, write_text};
-use cps_page::{Beside, make_page_of};
+use cps_page::make_page_of;
 use cps_text::limits::MOST_READS;
 use cps_text::{Counted, Line};
 use std::alloc::{AllocError, Global};
@@ -92,9 +95,17 @@ fn wanted_page(alloc: Global, source: &Source, outputs: Outputs<'_>) -> Result<V
     ensures { IfOk result (λ page. IsPageFor (names_of outputs.entry) source.now page.items) }
 {
     match outputs.page {
-        Some(_) => make_page_of(alloc, source, &Beside::nothing(alloc)),
+        Some(_) => page_of(alloc, source),
         None => Ok(Vec::new(alloc)),
     }
+}
+
+/// The page of a source, with what is told beside its texts.
+fn page_of(alloc: Global, source: &Source) -> Result<Vec<u8>, AllocError>
+    ensures { IfOk result (λ page. IsPageOf (assembly_of source.now) page.items) }
+{
+    let beside = tell_beside(alloc, source)?;
+    make_page_of(alloc, source, &beside)
 }
 
 /// Writes all of a text, or a front of it where a write fails; nothing where there is none.

@@ -1,0 +1,101 @@
+"""Pages of sources: read as XML, and compared with the four texts and with what a check tells."""
+import html
+import re
+import xml.etree.ElementTree as tree
+
+PARTS = {"listing": "listing", "words": "binary", "symbols": "symbols", "flags": "flags"}
+NOTES = ("h2", "small")
+
+
+class Fault(Exception):
+    pass
+
+
+def local(element):
+    """The name of an element, without that of its space."""
+    return element.tag.rsplit("}", 1)[-1]
+
+
+def said(element):
+    """The text of an element beside its notes."""
+    text = element.text or ""
+    for inner in element:
+        if local(inner) not in NOTES:
+            text += said(inner)
+        text += inner.tail or ""
+    return text
+
+
+def causes_in(told):
+    """The letter and the words of each cause that a check tells."""
+    return sorted(" ".join(found) for found in re.findall(r"^[^:\n]*:\d+:\d+: error: ([A-Z]): (.*)$", told, re.M))
+
+
+def defining_lines(symbols):
+    """The first line that defines each symbol, by the cross-reference; 0 where none does."""
+    return {row[:8].rstrip(): row[30:].split()[0] for row in symbols.splitlines()}
+
+
+def check_sections(page, root, texts):
+    for identifier, part in PARTS.items():
+        found = [section for section in root.iter() if local(section) == "section" and section.get("id") == identifier]
+        if len(found) != 1:
+            raise Fault(f"{len(found)} sections {identifier}")
+        if said(found[0]) != texts[part]:
+            raise Fault(f"the section {identifier} says another text")
+        written = re.search(rf'<section id="{identifier}">(.*?)</section>', page, re.S)[1]
+        bare = re.sub(r"<(h2|small)\b.*?</\1>", "", written, flags=re.S)
+        if html.unescape(re.sub(r"<[^<>]*>", "", bare)) != texts[part]:
+            raise Fault(f"without its tags the section {identifier} is another text")
+
+
+def notes_in(root, identifier, style):
+    """The notes of a style in a section."""
+    section = next(section for section in root.iter() if local(section) == "section" and section.get("id") == identifier)
+    return ["".join(note.itertext()) for note in section.iter() if local(note) == "small" and note.get("class") == style]
+
+
+def check_notes(root, texts, causes):
+    title = next("".join(element.itertext()) for element in root.iter() if local(element) == "title")
+    if title != (texts["binary"].split("\n", 1)[0].removeprefix("IDENT").strip() or "COMPASS listing"):
+        raise Fault(f"the title is {title!r}")
+    for section in (section for section in root.iter() if local(section) == "section" and section.get("id") not in PARTS):
+        if said(section):
+            raise Fault(f"the section {section.get('id')} says something")
+    for section in ("listing", "flags"):
+        told = sorted(re.sub(r" \(\d+ times\)$", "", note) for note in notes_in(root, section, "c"))
+        if told != causes:
+            differs = set(told) ^ set(causes)
+            raise Fault(f"the section {section} tells other causes than a check: {sorted(differs)[:3] or len(told)}")
+    counts = [int(note[30:39]) for note in notes_in(root, "instructions", "t")]
+    codes = sum(1 for row in texts["listing"].split("\n") if re.match(r"[0-7]{5}([0-7]{5})?$|[0-7]{4}( [0-7]{4})?$", row[16:37].strip()) and row[36:44].strip()
+                and not re.match(r" ?(\S+)? +(VFD|CON|DATA|DIS)\b", row[44:], re.I))
+    if sum(counts) != codes:
+        raise Fault(f"{sum(counts)} instructions are told, and the listing has {codes}")
+
+
+def check_links(root, texts):
+    identifiers = [element.get("id") for element in root.iter() if element.get("id") is not None]
+    twice = {name for name in identifiers if identifiers.count(name) > 1} if len(identifiers) < 2_000 else len(identifiers) - len(set(identifiers))
+    if twice:
+        raise Fault(f"identifiers that come twice: {twice}")
+    known, lines = set(identifiers), defining_lines(texts["symbols"])
+    for link in (element for element in root.iter() if local(element) == "a"):
+        target, words = link.get("href", ""), said(link)
+        if not target.startswith("#") or target[1:] not in known:
+            raise Fault(f"the link {words!r} leads to {target!r}")
+        if words in lines and target[1:].isdigit() and target[1:] != lines[words]:
+            raise Fault(f"the symbol {words} leads to line {target[1:]}, and line {lines[words]} defines it")
+
+
+def check_page(page, texts, causes):
+    """Ends with a fault where a page isn't one of these texts."""
+    try:
+        root = tree.fromstring(page)
+    except tree.ParseError as error:
+        raise Fault(f"no XML: {error}") from error
+    if re.search(r"<script|(?:src|href)=\"(?!#)|url\(", page):
+        raise Fault("a script, or an address of another page")
+    check_sections(page, root, texts)
+    check_links(root, texts)
+    check_notes(root, texts, causes)
