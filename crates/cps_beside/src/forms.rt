@@ -105,12 +105,27 @@ impl FormLister {
         if self.is_new(name) {
             self.add(name)?;
         }
+        Ok(self.closest(name, code))
+    }
+
+    /// The form of an operation that has a code, and of several the first of those with the fewest fields.
+    fn closest(&self, name: &[u8], code: OctalDigits) -> Option<u32> {
+        let mut found = None;
+        let mut most = 0;
         for (at, form) in self.forms.iter().enumerate() {
             if is_named(form, name) && has_code(form, code) {
-                return Ok(Some(index(at)));
+                let digits = form
+                    .code
+                    .iter()
+                    .filter(|letter| letter.is_ascii_digit())
+                    .count();
+                if found.is_none() || digits > most {
+                    found = Some(index(at));
+                    most = digits;
+                }
             }
         }
-        Ok(None)
+        found
     }
 
     /// Whether an operation hasn't occurred yet.
