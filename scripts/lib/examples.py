@@ -11,11 +11,12 @@ def program_path(name):
     return os.path.join(PROGRAMS, name)
 
 
-def page_frame():
-    """What stands in front of the sections of a page, and what behind them."""
+def page_frame(title):
+    """What stands in front of the sections of a page with a title, and what behind them."""
     with open(os.path.join(PAGES, "sum.html"), "rb") as file:
         page = file.read()
-    return page[: page.index(b"<section")], page[page.rindex(b"</section>") + len(b"</section>") :]
+    front = page[: page.index(b"<section")].replace(b"<title>SUM</title>", b"<title>%s</title>" % title.encode())
+    return front, page[page.rindex(b"</section>") + len(b"</section>") :]
 
 
 def session_path(name):
