@@ -1,12 +1,12 @@
 -- Characters that are written by name, one by one.
 use Prim.Native.Char.{code}
-use Rattle.std.proofs.Common.{◌≡◌, ℕ, Bool, true, false, ◌&&◌, ◌==◌, refl, sym, ap, ◌∙◌, List, [], ◌∷◌, ◌++◌}
+use Rattle.std.proofs.Common.{◌≡◌, ℕ, true, false, ◌&&◌, ◌==◌, refl, sym, ap, ◌∙◌, List, [], ◌∷◌, ◌++◌}
 use Rattle.std.specs.Prelude.{codes, if◌then◌else◌, not, ◌||◌}
 use Rattle.std.specs.List.{list_all}
 use Rattle.std.proofs.lemmas.Bool.{eqb-true}
 use Rattle.std.proofs.lemmas.List.Folds.{list_all-append}
 use Rattle.cps_markup.specs.Markup.{character_text, escaped}
-use Rattle.cps_markup.specs.EscapingLaws.{is_harmless, NoTextIsMarkup, named, read_back, TextIsReadBack}
+use Rattle.cps_markup.specs.EscapingLaws.{is_harmless, NoTextIsMarkup, read_back, TextIsReadBack}
 
 harmless-alone : (c : ℕ) → (c == code "<") ≡ false → (c == code ">") ≡ false → (c == code "\"") ≡ false → list_all is_harmless (c ∷ []) ≡ true
 harmless-alone c less greater quote = λ i. not (less i || (greater i || (quote i || false))) && true

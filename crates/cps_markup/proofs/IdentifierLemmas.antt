@@ -1,6 +1,6 @@
 -- Identifiers of places, kind by kind.
-use Rattle.std.proofs.Common.{◌≡◌, ℕ, suc, ◌+◌, ◌-◌, ◌/◌, ◌%◌, ◌<◌, ◌≤◌, ◌^◌, Bool, true, false, true≢false, ◌&&◌, ◌||◌, ◌==◌, refl, sym, ap, ◌∙◌, List, [], ◌∷◌, ◌++◌, get_or, decimal, arith}
-use Rattle.std.specs.Prelude.{codes, Option, Some, None, is_some, length, nat_eq, nat_le, nat_lt, not, slice_index, if◌then◌else◌}
+use Rattle.std.proofs.Common.{◌≡◌, ℕ, ◌+◌, ◌-◌, ◌%◌, ◌<◌, ◌≤◌, ◌^◌, Bool, true, false, true≢false, ◌&&◌, ◌||◌, ◌==◌, refl, sym, ap, ◌∙◌, List, [], ◌∷◌, ◌++◌, get_or, decimal, arith}
+use Rattle.std.specs.Prelude.{codes, Some, None, is_some, length, nat_eq, nat_le, nat_lt, not, if◌then◌else◌}
 use Rattle.std.specs.List.{list_all}
 use Rattle.std.specs.Str.Parse.{digits_value}
 use Rattle.std.proofs.lemmas.Bool.{leb-true, ne_eqb}
@@ -10,12 +10,11 @@ use Rattle.cps_text.specs.declared.name.Name.{Name}
 use Rattle.cps_text.specs.Name.{name_of, name_text}
 use Rattle.cps_text.specs.Symbol.{begins_symbol, continues_symbol, is_generated, is_name, is_register, is_symbol, padded}
 use Rattle.cps_text.specs.Text.{among, capital, capitals, is_digit}
-use Rattle.cps_markup.specs.declared.place.Place.{Place}
 use Rattle.cps_markup.specs.declared.place.Place.TheVariants.{Line, Symbol, Section}
 use Rattle.cps_markup.specs.declared.place.PageSection.{PageSection}
 use Rattle.cps_markup.specs.declared.place.PageSection.TheVariants as page
 use Rattle.cps_markup.specs.Places.{section_name}
-use Rattle.cps_markup.specs.PlaceLaws.{IsWritten, IdentifiersDiffer}
+use Rattle.cps_markup.specs.PlaceLaws.{IdentifiersDiffer}
 
 -- ---- a number begins with a digit, and is no name
 

@@ -1,8 +1,6 @@
 -- Links that may be written.
-use Rattle.std.proofs.Common.{◌≡◌, ℕ, subst, sym, List}
-use Rattle.std.specs.Prelude.{IsTrue, ⊤}
+use Rattle.std.proofs.Common.{◌≡◌, ℕ, subst, List}
 use Rattle.cps_text.specs.declared.name.Name.{Name}
-use Rattle.cps_markup.specs.declared.place.Place.{Place}
 use Rattle.cps_markup.specs.declared.place.Place.TheVariants.{Line, Symbol, Section}
 use Rattle.cps_markup.specs.declared.place.PageSection.{PageSection}
 use Rattle.cps_markup.specs.declared.targets.Targets.{Targets}

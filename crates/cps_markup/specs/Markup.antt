@@ -1,6 +1,6 @@
 -- Markup as it is written: HTML that is XML too. From HTML's rules for text, elements and attributes.
 use Prim.Native.Char.{code}
-use Rattle.std.specs.Prelude.{ℕ, Bool, true, false, ◌==◌, List, [], ◌∷◌, ◌++◌, map, flat_map, codes, if◌then◌else◌}
+use Rattle.std.specs.Prelude.{ℕ, Bool, true, false, ◌==◌, List, [], ◌∷◌, ◌++◌, flat_map, codes, if◌then◌else◌}
 use Rattle.cps_markup.specs.declared.attribute.Attribute.{Attribute as CodeAttribute}
 use Rattle.cps_markup.specs.declared.attribute.Attribute.TheVariants as made
 use Rattle.cps_markup.specs.declared.place.Place.{Place}

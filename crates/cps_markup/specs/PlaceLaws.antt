@@ -1,5 +1,5 @@
 -- Identifiers of two places differ. Our own.
-use Rattle.std.specs.Prelude.{◌≡◌, ℕ, ◌<◌, ◌^◌, Some, ⊤}
+use Rattle.std.specs.Prelude.{◌≡◌, ◌<◌, ◌^◌, Some, ⊤}
 use Rattle.cps_text.specs.Name.{name_of, name_text}
 use Rattle.cps_markup.specs.declared.place.Place.{Place}
 use Rattle.cps_markup.specs.declared.place.Place.TheVariants.{Line, Symbol, Section}

@@ -1,4 +1,4 @@
-use Rattle.std.proofs.Common.{List, ℕ, rules}
+use Rattle.std.proofs.Common.{rules}
 use Rattle.cps_markup.specs.Links.{Leads}
 use Rattle.cps_markup.proofs.AddsLemmas.{adds-cut, adds-end}
 use Rattle.cps_markup.proofs.stretch.push_painted.Goals as goal
