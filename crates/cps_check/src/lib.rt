@@ -63,5 +63,6 @@ mod told_line;
 pub use check_options::CheckOptions;
 pub use checking::check;
 pub use fault::CheckFault;
+pub use known_places::KnownPlaces;
 pub use laws::a_check_agrees_with_batch;
 pub use manual::manual_text;

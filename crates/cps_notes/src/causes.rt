@@ -1,8 +1,11 @@
 //! Why lines are flagged.
 
-use crate::known_places::KnownPlaces;
 use cps_batch::{KeptPassOne, Source};
-use cps_cause::{Card, Diagnostic, LinesAbove, Places, explain, explain_end, line_of_opener};
+use cps_cause::{
+    Card, Diagnostic, LinesAbove, Origin, Places, explain, explain_end, line_of_opener,
+};
+use cps_check::KnownPlaces;
+use cps_expr::Radix;
 use cps_final::Finals;
 use cps_list::{View, push_decimal};
 use cps_page::Cause;
@@ -18,7 +21,7 @@ pub fn list_causes(alloc: Global, source: &Source) -> Result<Vec<Cause>, AllocEr
     }
     let lines = copy_lines(alloc, source)?;
     let one = KeptPassOne::of(alloc, source.finals().hashing(), &lines)?;
-    list_of_lines(alloc, source, one.traces(), &mut causes)?;
+    list_of_lines(source, &lines, one.traces(), &mut causes)?;
     list_of_end(alloc, source, one.traces(), &mut causes)?;
     Ok(causes)
 }
@@ -38,13 +41,14 @@ fn copy_lines(alloc: Global, source: &Source) -> Result<Vec<Line>, AllocError> {
 }
 
 fn list_of_lines(
-    alloc: Global,
     source: &Source,
+    lines: &[Line],
     traces: &[Trace],
     causes: &mut Vec<Cause>,
 ) -> Result<(), AllocError> {
+    let alloc = *causes.allocator();
     let hashing = source.finals().hashing();
-    let mut places = KnownPlaces::of(alloc, hashing, traces)?;
+    let mut places = KnownPlaces::of(alloc, hashing, lines, traces)?;
     let mut number: u32 = 0;
     for trace in traces {
         number = number.saturating_add(1);
@@ -56,7 +60,7 @@ fn list_of_lines(
             };
             flagged.list(alloc, source.finals(), &places, causes)?;
         }
-        places.pass(number, trace);
+        places.pass(number, trace)?;
     }
     Ok(())
 }
@@ -159,6 +163,8 @@ fn list_of_end(
         cause,
         within: columns,
         statement: Shared::empty(),
+        origin: Origin::Line,
+        base: Radix::Decimal,
         times: 1,
     };
     let behind = source.count().saturating_add(1);

@@ -4,7 +4,6 @@
 //! - `blocks.rt`: where the blocks of a source stand
 //! - `causes.rt`: why lines are flagged
 //! - `forms.rt`: the forms of the instructions that occur
-//! - `known_places.rt`: in which lines stands what words speak of
 //! - `manual_rows.rt`: the forms of an operation, read from what the manual tells of it
 //! - `telling.rt`: all that is told
 #![tactic(auto)]
@@ -12,7 +11,6 @@
 mod blocks;
 mod causes;
 mod forms;
-mod known_places;
 mod manual_rows;
 mod telling;
 

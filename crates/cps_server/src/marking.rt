@@ -11,7 +11,7 @@ use crate::line_marks::unindented;
 use crate::mark::Mark;
 use crate::mark_kind::MarkKind;
 use crate::marked_document::MarkedDocument;
-use cps_cause::{Columns, Places, Quotation, explain_end, line_of_opener};
+use cps_cause::{Columns, Origin, Places, Quotation, explain_end, line_of_opener};
 use cps_list::View;
 use cps_text::Name;
 use cps_text::limits::MOST_LINES;
@@ -119,6 +119,10 @@ impl Places for KnownOpener {
     }
 
     fn line_of_body(&self) -> Option<u32> {
+        None
+    }
+
+    fn line_of_origin(&self, _origin: Origin) -> Option<u32> {
         None
     }
 }
