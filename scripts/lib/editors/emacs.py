@@ -12,7 +12,7 @@ from .shared import COLUMNED, DOCUMENT, REFUSAL, SECONDS, TAKEN, TYPED, Terminal
 BEGIN = """(progn (setq native-comp-async-report-warnings-errors nil server-name "{socket}") (server-start))"""
 MARKS = """(vconcat (mapcar (lambda (one) (with-current-buffer (flymake-diagnostic-buffer one)
   (save-excursion (goto-char (flymake-diagnostic-beg one))
-    (list (line-number-at-pos) (1+ (current-column)) (flymake-diagnostic-text one))))) (flymake-diagnostics)))"""
+    (list (eq (flymake-diagnostic-type one) 'eglot-error) (line-number-at-pos) (1+ (current-column)))))) (flymake-diagnostics)))"""
 SERVERS = """(vconcat (mapcar (lambda (name) (with-current-buffer name
   (if (eglot-current-server) (process-id (jsonrpc--process (eglot-current-server)))))) '({names})))"""
 OUTLINE = """(vconcat (let (found) (letrec ((walk (lambda (one)
@@ -67,11 +67,11 @@ class Emacs(Terminal):
               lambda: "there is no server:\n" + "\n".join(self.screen()))
 
     def has_marks(self, program):
-        """Each flag of a check has its mark, and no mark stands elsewhere."""
+        """Each flag and note of a check has its mark, and no mark stands elsewhere."""
         def found():
-            places = ((line, column, re.match(r".*?\b([A-Z])\b|", text)) for line, column, text in self.asked(MARKS) or [])
-            return sorted((line, column) for line, column, _ in places)
-        same("marks", found, [each[:2] for each in program.flags(self.text())])
+            marks = self.asked(MARKS) or []
+            return sorted((line, column) for is_error, line, column in marks if is_error), sorted({line for is_error, line, _ in marks if not is_error})
+        same("marks", found, ([each[:2] for each in program.flags(self.text())], program.notes(self.text())))
 
 
 def in_emacs(room, words, tried):

@@ -30,7 +30,7 @@ class Helix(Terminal):
         return next((line.split(f" {number} ", 1)[1] for line in self.screen() if re.match(rf".? *{number} ", line)), "").strip()
 
     def has_marks(self, program, text):
-        same("marks", self.marked, sorted({line for line, _, _ in program.flags(text)}))
+        same("marks", self.marked, sorted({line for line, _, _ in program.flags(text)} | set(program.notes(text))))
 
 
 def in_helix(room, name, tried):

@@ -33,7 +33,8 @@ SERVERS = """\
 end)()"""
 # So much of a line is looked at; behind it a mark may be told.
 LEAST = 50
-MARKS = "vim.tbl_map(function(one) return { one.lnum + 1, one.col + 1, one.code or '' } end, vim.diagnostic.get(0))"
+MARKS = "vim.tbl_map(function(one) return { one.severity, one.lnum + 1, one.col + 1, one.code or '' } end, vim.diagnostic.get(0))"
+ERROR = 1
 
 
 LISTED = "vim.tbl_map(function(one) return one.lnum end, vim.fn.getqflist())"
@@ -83,9 +84,14 @@ class Neovim(Terminal):
     def line(self):
         return self.asked("vim.api.nvim_win_get_cursor(0)[1]")
 
+    def marks(self):
+        """The errors, and the lines of what else is marked."""
+        marks = self.asked(MARKS) or []
+        return sorted(tuple(mark[1:]) for mark in marks if mark[0] == ERROR), sorted({mark[1] for mark in marks if mark[0] != ERROR})
+
     def has_marks(self, program):
-        """Each flag of a check has its mark, and no mark stands elsewhere."""
-        same("marks", lambda: sorted(map(tuple, self.asked(MARKS) or [])), program.flags(self.text()))
+        """Each flag and note of a check has its mark, and no mark stands elsewhere."""
+        same("marks", self.marks, (program.flags(self.text()), program.notes(self.text())))
 
     def leave(self):
         self.command("qa!")

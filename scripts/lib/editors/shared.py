@@ -58,6 +58,11 @@ class Program:
         found = (re.match(r"<stdin>:(\d+):(\d+): error: (?:(\w):)?", row) for row in self.ask(["check"], text))
         return sorted((int(one[1]), int(one[2]), one[3] or "") for one in found if one)
 
+    def notes(self, text):
+        """The lines that a check notes."""
+        found = (re.match(r"<stdin>:(\d+):\d+: note: ", row) for row in self.ask(["check"], text))
+        return sorted({int(one[1]) for one in found if one})
+
     def rows(self, text):
         """The rows that the listing has of each line."""
         found = []

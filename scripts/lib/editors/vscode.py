@@ -14,6 +14,8 @@ from .shared import REFUSAL, ROOT, SECONDS, TAKEN, Fault, renamed, run, same, un
 FOLDER = os.path.join(ROOT, "editors/vscode")
 STUB = os.path.join(os.path.dirname(os.path.abspath(__file__)), "vscode_stub.js")
 DECK = "file:///decks/deck.cps"
+# As VS Code counts them.
+ERROR = 0
 # How often a server may end by itself within a minute, and what is shown then.
 MOST_ENDS = 4
 ENDS = f"COMPASS: {{}}, {MOST_ENDS} times within a minute. It isn't started again."
@@ -94,13 +96,18 @@ class Code:
         self.tell("change", uri=uri, changes=[{"range": place, "text": text} for place, text in changes])
 
     def marks(self, uri):
-        """The marks of a text: line, column, letter."""
-        starts = [(one["range"]["start"], one.get("code", "")) for one in self.tell("marks", uri=uri)]
+        """The errors of a text: line, column, letter."""
+        starts = [(one["range"]["start"], one.get("code", "")) for one in self.tell("marks", uri=uri) if one["severity"] == ERROR]
         return sorted((start["line"] + 1, start["character"] + 1, letter) for start, letter in starts)
 
+    def noted(self, uri):
+        """The lines of what else is marked."""
+        return sorted({one["range"]["start"]["line"] + 1 for one in self.tell("marks", uri=uri) if one["severity"] != ERROR})
+
     def has_marks(self, uri, program):
-        """Each flag of a check has its mark, and no mark stands elsewhere."""
-        same("marks", lambda: self.marks(uri), program.flags(self.tell("text", uri=uri)))
+        """Each flag and note of a check has its mark, and no mark stands elsewhere."""
+        text = self.tell("text", uri=uri)
+        same("marks", lambda: (self.marks(uri), self.noted(uri)), (program.flags(text), program.notes(text)))
 
     def close(self):
         self.process.stdin.close()
