@@ -13,10 +13,12 @@ local function is_served(source, is_starting)
   return false
 end
 
--- Rows are asked for as plain text: in Markdown they would be coloured as lines of a source.
+-- Rows are asked for as plain text: in Markdown they would be coloured as lines of a source. The line to which a flag leads is asked for in its
+-- message, since Neovim shows no related line.
 local function capabilities()
   local found = vim.lsp.protocol.make_client_capabilities()
   found.textDocument.hover.contentFormat = { 'plaintext' }
+  found.textDocument.publishDiagnostics.relatedInformation = false
   return found
 end
 

@@ -121,6 +121,8 @@ def try_marks(room, program):
     def tried(editor):
         editor.has_marks(program)
         editor.shows("no form of SA1 takes X2*2")
+        # the flag of line 8 names the line that it leads to
+        editor.shows("TWO has a value already, and keeps it (line 6)")
         editor.type("7G0f*r+")
         until(lambda: "X2+2" in editor.text(), lambda: f"line 7 isn't changed: {editor.text()}")
         editor.has_marks(program)
