@@ -28,6 +28,7 @@ pub mod StoringLemmas
 pub mod RunLemmas
 pub mod KeysLemmas
 pub mod PassedLemmas
+pub mod SoughtLemmas
 pub mod WalkLemmas
 pub mod GoLemmas
 pub mod EnterLemmas

@@ -16,7 +16,7 @@ use Rattle.cps_final.specs.Layout.{puts_of}
 use Rattle.cps_final.proofs.PutLemmas.{overwritten-last}
 use Rattle.cps_chunk.specs.declared.chunk.Chunk.{Chunk}
 use Rattle.cps_chunk.specs.declared.state_before.StateBefore.{StateBefore}
-use Rattle.cps_chunk.specs.KeyFilter.{bit_of, has}
+use Rattle.cps_chunk.specs.KeyFilter.{mark_of, has}
 use Rattle.cps_chunk.specs.Code.Chunk.{IsChunkOf, AreChunksOf}
 use Rattle.cps_chunk.specs.Code.StateBefore.{sought_from, sought, found}
 use Rattle.cps_chunk.proofs.AbsentLemmas.{not-put}
@@ -68,11 +68,11 @@ line-passed rest next t k last steps here was = sym (line-last rest next t k ste
 
 -- what its lines put, if it has the mark
 abbrev sought_in : Hashing → Chunk → List Trace → Key → Option Answer
-sought_in hashing c ts k = if has c.puts (bit_of hashing k) then last_put (puts_of (drop (length ts - c.lines) ts)) k else None
+sought_in hashing c ts k = if has c.puts (mark_of hashing k) then last_put (puts_of (drop (length ts - c.lines) ts)) k else None
 
 module _ (hashing : Hashing) (k : Key) where
   -- a chunk that has no mark has no put
-  in-chunk : (c : Chunk) (here : List Trace) → IsChunkOf hashing here c → (marked : Bool) → has c.puts (bit_of hashing k) ≡ marked
+  in-chunk : (c : Chunk) (here : List Trace) → IsChunkOf hashing here c → (marked : Bool) → has c.puts (mark_of hashing k) ≡ marked
       → (if marked then last_put (puts_of here) k else None) ≡ last_put (puts_of here) k
   in-chunk c here is true marked = refl
   in-chunk c here is false marked = sym (not-put hashing c.puts k marked here is.puts)
@@ -82,7 +82,7 @@ module _ (hashing : Hashing) (k : Key) where
   sought-back (c ∷ before) ts s =
       let start : ℕ = length ts - c.lines in
       let ends = chunks-last hashing (reverse before) c ts (subst (λ (cs : List Chunk). AreChunksOf hashing cs ts) (reverse-append (c ∷ []) before) s) in
-      let here : sought_in hashing c ts k ≡ last_put (puts_of (drop start ts)) k = in-chunk c (drop start ts) ends.last (has c.puts (bit_of hashing k)) refl in
+      let here : sought_in hashing c ts k ≡ last_put (puts_of (drop start ts)) k = in-chunk c (drop start ts) ends.last (has c.puts (mark_of hashing k)) refl in
       let front : sought_from hashing before (take start ts) k ≡ last_put (puts_of (take start ts)) k = sought-back before (take start ts) ends.front in
       (λ i. option_or (here i) (front i)) ∙ sym (last_put-lines (take start ts) (drop start ts) k) ∙ ap (λ us. last_put (puts_of us) k) (take-append-drop start ts)
 

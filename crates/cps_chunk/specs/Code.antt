@@ -14,5 +14,6 @@ pub mod Pieces
 pub mod Recuts
 pub mod Redo
 pub mod Replay
+pub mod Sought
 pub mod Storing
 pub mod Walk

@@ -1,5 +1,5 @@
 -- A filter of keys: a key whose bit is 0 is none of those that were marked. Our own.
-use Rattle.std.specs.Prelude.{◌≡◌, ℕ, ◌/◌, ◌%◌, ◌^◌, Bool, true, nat_eq, List, fold, flat_map, map, slice_index}
+use Rattle.std.specs.Prelude.{◌≡◌, ℕ, ◌/◌, ◌%◌, ◌^◌, Bool, true, ◌&&◌, nat_eq, List, fold, flat_map, map, slice_index}
 use Rattle.std.specs.List.{list_all}
 use Rattle.std.specs.Int.{bit_at}
 use Rattle.std.specs.Hash.FoldHasher.{write, finish}
@@ -11,17 +11,25 @@ use Rattle.cps_state.specs.Course.{Trace}
 use Rattle.cps_final.specs.LineNames.{later_names}
 use Rattle.cps_chunk.specs.declared.key_filter.KeyFilter.{KeyFilter}
 
--- the number of a key's mark: the first 11 bits of its hash
-unfoldable pub bit_of : Hashing → Key → ℕ
-bit_of hashing k = finish (fold write hashing.begun (hash_input-value.it k)) / 2 ^ 53 % 2048
+-- a key's mark: the first 22 bits of its hash, which are the numbers of its two bits in a filter
+unfoldable pub mark_of : Hashing → Key → ℕ
+mark_of hashing k = finish (fold write hashing.begun (hash_input-value.it k)) / 2 ^ 42 % 2 ^ 22
+
+-- whether a bit is 1
+abbrev pub is_set : KeyFilter → ℕ → Bool
+is_set filter bit = nat_eq (bit_at (slice_index filter.bits (bit / 64)) (bit % 64)) 1
 
 -- whether a mark is there
 abbrev pub has : KeyFilter → ℕ → Bool
-has marks mark = nat_eq (bit_at (slice_index marks.bits (mark / 64)) (mark % 64)) 1
+has filter mark = is_set filter (mark / 2048) && is_set filter (mark % 2048)
 
 -- all these keys have their marks
 abbrev pub AreMarked : Hashing → KeyFilter → List Key → Type 0
-AreMarked hashing marks keys = list_all (λ k. has marks (bit_of hashing k)) keys ≡ true
+AreMarked hashing marks keys = list_all (λ k. has marks (mark_of hashing k)) keys ≡ true
+
+-- no bit is lost
+abbrev pub HasBits : KeyFilter → KeyFilter → Type 0
+HasBits old new = (bit : ℕ) → is_set old bit ≡ true → is_set new bit ≡ true
 
 -- no mark is lost
 abbrev pub HasAll : KeyFilter → KeyFilter → Type 0

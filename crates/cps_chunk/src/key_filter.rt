@@ -1,11 +1,11 @@
 //! A filter of keys.
-ghost use Rattle.std.specs.Prelude.{◌≡◌, ◌<◌, ℕ, [], ◌∷◌, true, false, flat_map, map, List};
+ghost use Rattle.std.specs.Prelude.{◌≡◌, ◌<◌, ◌^◌, ℕ, [], ◌∷◌, true, false, flat_map, map, List};
 ghost use Rattle.cps_state.specs.declared.hashing.Hashing.{Hashing as AHashing};
 ghost use Rattle.cps_state.specs.declared.key.Key.{Key as AKey};
 ghost use Rattle.cps_state.specs.declared.key.Key.TheVariants as key;
 ghost use Rattle.cps_state.specs.Made.{content_names};
 ghost use Rattle.cps_code.specs.Operand.{operand_names};
-ghost use Rattle.cps_chunk.specs.KeyFilter.{has, bit_of, AreMarked, HasAll, keys_put, keys_asked, keys_named};
+ghost use Rattle.cps_chunk.specs.KeyFilter.{has, is_set, mark_of, AreMarked, HasAll, HasBits, keys_put, keys_asked, keys_named};
 
 use cps_code::Hole;
 use cps_state::{Content, Hashing, Item, Key, Trace};
@@ -13,22 +13,22 @@ use cps_text::Name;
 use std::hash::BuildHasher;
 
 /// The bits of a filter.
-pub const FILTER_BITS: usize = 2_048;
+const BITS: usize = 2_048;
 
-const WORDS: usize = 32;
+const WORDS: usize = BITS / 64;
 
-/// A Bloom filter of keys, one bit a key: a key whose bit is 0 is none of those that were marked. Several keys may have one bit.
+/// A Bloom filter of keys, two bits a key: a key of whose bits one is 0 is none of those that were marked. Several keys may have the same.
 #[derive(Clone, Copy)]
 pub struct KeyFilter {
     bits: [u64; WORDS],
 }
 
-/// The number of a key's bit, from 0.
-pub fn bit_of(hashing: Hashing, key: Key) -> usize
-    ensures mark { result ≡ bit_of hashing key }
-    ensures bound { result < FILTER_BITS }
+/// A key's mark: the numbers of its two bits, from 0, the one 2,048 times and the other.
+pub fn mark_of(hashing: Hashing, key: Key) -> usize
+    ensures mark { result ≡ mark_of hashing key }
+    ensures bound { result < 2 ^ 22 }
 {
-    (hashing.hash_one(key) >> 53) as usize
+    (hashing.hash_one(key) >> 42) as usize
 }
 
 impl KeyFilter {
@@ -48,21 +48,40 @@ impl KeyFilter {
         }
     }
 
-    /// Whether a bit is 1.
+    /// Whether both bits of a mark are 1.
     pub fn has(&self, mark: usize) -> bool
-        requires { mark < FILTER_BITS }
         ensures { result ≡ has self.now mark }
     {
-        (self.bits[mark / 64] >> (mark % 64)) & 1 == 1
+        self.is_set(mark / BITS) && self.is_set(mark % BITS)
+    }
+
+    /// Whether a bit is 1. One that the filter doesn't have is none.
+    fn is_set(&self, bit: usize) -> bool
+        ensures { result ≡ is_set self.now bit }
+    {
+        match self.bits.get(bit / 64) {
+            Some(word) => (*word >> (bit % 64)) & 1 == 1,
+            None => false,
+        }
     }
 
     /// Marks a key.
     fn mark(&mut self, hashing: Hashing, key: Key)
-        ensures marked { has self.new (bit_of hashing key) ≡ true }
+        ensures marked { has self.new (mark_of hashing key) ≡ true }
         ensures kept { HasAll self.old self.new }
     {
-        let mark = bit_of(hashing, key);
-        self.bits[mark / 64] |= 1 << (mark % 64);
+        let mark = mark_of(hashing, key);
+        self.set(mark / BITS);
+        self.set(mark % BITS);
+    }
+
+    /// Sets a bit.
+    fn set(&mut self, bit: usize)
+        requires { bit < BITS }
+        ensures set { is_set self.new bit ≡ true }
+        ensures kept { HasBits self.old self.new }
+    {
+        self.bits[bit / 64] |= 1 << (bit % 64);
     }
 
     /// With all marks of others.

@@ -19,6 +19,7 @@
 //! - `replay.rt`: pass one over lines that were there before an edit
 //! - `runs.rt`: runs of lines, by which chunks are passed
 //! - `same.rt`: whether what lines asked still stands
+//! - `sought_keys.rt`: keys that are sought in many filters
 //! - `sparse.rt`: items at some places of a list
 //! - `state_before.rt`: what stands in front of a line, sought backwards
 //! - `states.rt`: what stands in front of a line
@@ -46,6 +47,7 @@ mod redo;
 mod replay;
 pub mod runs;
 mod same;
+mod sought_keys;
 mod sparse;
 mod state_before;
 mod states;
@@ -56,11 +58,12 @@ mod walk;
 
 pub use chunk::Chunk;
 pub use exchange::{RecutChunk, recut_exchange};
-pub use key_filter::{KeyFilter, bit_of};
+pub use key_filter::{KeyFilter, mark_of};
 pub use moved::chunks_moved;
 pub use put::{ChunkSplice, FULL};
 pub use redo::Redo;
 pub use replay::Replay;
+pub use sought_keys::SoughtKeys;
 pub use sparse::{SparseItem, put_all};
 pub use storing::{leave_same, store_all, store_renewed};
 pub use walk::{Baseline, Cursor, Destination, Span, Walk, part};

@@ -8,7 +8,7 @@ ghost use Rattle.cps_chunk.specs.Code.Chunk.{AreChunksOf};
 ghost use Rattle.cps_chunk.specs.Code.StateBefore.{sought};
 
 use crate::chunk::Chunk;
-use crate::key_filter::bit_of;
+use crate::key_filter::mark_of;
 use cps_state::{Answer, Hashing, Key, Lookup, Put, State, Trace};
 
 /// What stands in front of a line: behind the lines of chunks, and those in no chunk behind these. Takes no memory.
@@ -70,7 +70,7 @@ impl<'a> StateBefore<'a> {
     fn seek(self, key: &Key) -> Option<&'a Answer>
         ensures { option_copied result ≡ sought self.entry.hashing self.entry.chunks.now self.entry.front.now key.now }
     {
-        let mark = bit_of(self.hashing, *key);
+        let mark = mark_of(self.hashing, *key);
         let mut chunks = self.chunks;
         let mut front = self.front;
         while let Some((chunk, before)) = chunks.split_last() {

@@ -1,5 +1,5 @@
 //! Pass one of an edit over a source in chunks.
-ghost use Rattle.std.specs.Prelude.{◌≡◌, ◌+◌, ◌-◌, ◌<◌, ◌≤◌, ◌++◌, [], List, OnOk, IfOk, true, false, is_some, length, take, drop, sum, if◌then◌else◌};
+ghost use Rattle.std.specs.Prelude.{◌≡◌, ◌+◌, ◌-◌, ◌<◌, ◌≤◌, ◌++◌, [], List, OnOk, IfOk, true, false, ◌||◌, is_some, length, take, drop, sum, if◌then◌else◌};
 ghost use Rattle.std.specs.List.{list_any};
 ghost use Rattle.cps_state.specs.declared.key.Key.{Key as AKey};
 ghost use Rattle.cps_state.specs.Course.{last_put as last_put_by};
@@ -12,7 +12,9 @@ ghost use Rattle.cps_final.specs.Run.{run_of};
 ghost use Rattle.cps_edit.specs.Compares.{ComparesUpTo, Steps};
 ghost use Rattle.cps_edit.specs.Passes.{traces_from};
 ghost use Rattle.cps_chunk.specs.Code.Chunk.{AreChunksOf, IsChunkOf, lengths_of};
-ghost use Rattle.cps_chunk.specs.KeyFilter.{has, bit_of};
+ghost use Rattle.cps_state.specs.Keys.{same_key};
+ghost use Rattle.cps_chunk.specs.Code.Sought.{AreSought, IsUntouched, is_asked};
+ghost use Rattle.cps_chunk.specs.KeyFilter.{has};
 ghost use Rattle.cps_chunk.specs.Noted.{last_puts, stands};
 ghost use Rattle.cps_chunk.specs.Code.Replay.{Closes, now_with};
 ghost use Rattle.cps_chunk.specs.Replayed.{replayed};
@@ -21,12 +23,13 @@ ghost use Rattle.cps_chunk.specs.Code.Along.{GoesAlong, IsChunkAt, IsGatheredAt,
 ghost use Rattle.cps_chunk.specs.declared.walk.Destination.TheVariants.{Behind};
 
 use crate::chunk::Chunk;
-use crate::key_filter::{KeyFilter, bit_of};
+use crate::key_filter::mark_of;
 use crate::replay::{OldLine, Replay};
 use crate::same::same_answers_under;
+use crate::sought_keys::SoughtKeys;
 use crate::state_before::{StateBefore, last_put};
 use cps_final::{Changes, same_answers};
-use cps_state::{Hashing, Key, Lookup, State, Trace, Work};
+use cps_state::{Asked, Hashing, Key, Lookup, State, Trace, Work};
 use cps_text::Line;
 use std::alloc::{AllocError, Global};
 
@@ -244,15 +247,50 @@ impl<'a> Walk<'a> {
         ensures steps { Steps result work.old work.new (length (replayed_in self.old first.line to)) 0 }
         ensures looked { ComparesUpTo work.old work.new (looks_in self.old first (cursor past to)) }
     {
+        let mut sought = self.sought_keys()?;
         let mut line = first.line;
         for chunk in first.chunk..past {
             if self.replay.changes().is_empty() {
                 return Ok(());
             }
             let end = line + self.chunks[chunk].lines;
-            self.go_over_chunk(Cursor { chunk, line }, end, work)?;
+            self.go_over_sought(&mut sought, Cursor { chunk, line }, end, work)?;
             line = end;
         }
+        Ok(())
+    }
+
+    /// The keys that are changed, to be sought in chunks; None where there are too many.
+    fn sought_keys(&self) -> Result<Option<SoughtKeys>, AllocError>
+        ensures { IfOk result (AreSought self.now.base.hashing self.now.replay.log.changes) }
+    {
+        sought_keys(self.base.alloc, self.base.hashing, self.replay.changes())
+    }
+
+    /// Goes over a chunk, up to this end. It is passed unread where none of the keys that are sought has its bits there; these are those that are changed.
+    fn go_over_sought(
+        &mut self,
+        sought: &mut Option<SoughtKeys>,
+        cursor: Cursor,
+        end: usize,
+        work: &mut Work,
+    ) -> Result<(), AllocError>
+        requires walk { IsWalk self.old }
+        requires chunk { IsChunkAt self.old cursor }
+        requires end { end ≡ sum (take (cursor.chunk + 1) (lengths_of self.old.chunks.items)) }
+        requires present { changes_in self.old.replay.log.present ≡ no_change }
+        requires sought { AreSought self.old.base.hashing self.old.replay.log.changes sought.old }
+        ensures over { OnOk result (GoesOver self.old self.new cursor.line end) }
+        ensures walk { IsStillWalk self.old self.new }
+        ensures sought { OnOk result (AreSought self.new.base.hashing self.new.replay.log.changes sought.new) }
+        ensures steps { Steps result work.old work.new (length (replayed_in self.old cursor.line end)) 0 }
+        ensures looked { ComparesUpTo work.old work.new (looks_at self.old cursor.line end) }
+    {
+        if !may_touch(&self.chunks[cursor.chunk], sought) {
+            return Ok(());
+        }
+        self.go_over_chunk(cursor, end, work)?;
+        *sought = self.sought_keys()?;
         Ok(())
     }
 
@@ -292,7 +330,7 @@ impl<'a> Walk<'a> {
     {
         let traces = part(self.base.traces, cursor.line, end);
         let chunk = &mut self.chunks[cursor.chunk];
-        if !may_have(self.base.hashing, &chunk.reads, self.replay.changes()) {
+        if !may_ask(self.base.hashing, chunk, traces, self.replay.changes()) {
             return Ok(true);
         }
         chunk.gather_run(self.base.alloc, self.base.hashing, traces)?;
@@ -545,26 +583,73 @@ pub fn part<'a>(traces: &'a [Trace], from: usize, to: usize) -> &'a [Trace]
     &traces[from..to]
 }
 
-/// Whether a changed key may have its mark, which of many keys isn't sought. It is counted nowhere, and takes no memory.
-fn may_have(hashing: Hashing, marks: &KeyFilter, changes: &Changes) -> bool
-    ensures { result ≡ false → (k : AKey) → is_some (changes_in changes.now k) ≡ true → has marks.now (bit_of hashing k) ≡ false }
+/// The changed keys, to be sought in chunks; None where there are too many.
+fn sought_keys(
+    alloc: Global,
+    hashing: Hashing,
+    changes: &Changes,
+) -> Result<Option<SoughtKeys>, AllocError>
+    ensures { IfOk result (AreSought hashing changes.now) }
+{
+    if changes.count() > FEW {
+        return Ok(None);
+    }
+    let mut sought = SoughtKeys::new(alloc);
+    for i in 0..changes.count() {
+        sought.seek(hashing, changes.key(i))?;
+    }
+    Ok(Some(sought))
+}
+
+/// Whether the lines of a chunk may ask or put one of the keys that are sought. Takes no memory.
+fn may_touch(chunk: &Chunk, sought: &Option<SoughtKeys>) -> bool
+    ensures { result ≡ false → IsUntouched chunk.now sought.now }
+{
+    match sought {
+        Some(keys) => may_hold(chunk, keys),
+        None => true,
+    }
+}
+
+/// Whether one of these keys may be asked or put by the lines of a chunk.
+fn may_hold(chunk: &Chunk, keys: &SoughtKeys) -> bool
+    ensures { result ≡ (list_any (has chunk.now.reads) keys.now || list_any (has chunk.now.puts) keys.now) }
+{
+    keys.has_bits_in(&chunk.reads) || keys.has_bits_in(&chunk.puts)
+}
+
+/// Whether the lines of a chunk, which did this, may ask a changed key. Their asks are gone through only for a key that has its mark; no answer is compared.
+fn may_ask(hashing: Hashing, chunk: &Chunk, traces: &[Trace], changes: &Changes) -> bool
+    requires { IsChunkOf hashing traces.now chunk.now }
+    ensures { result ≡ false → stands (changes_in changes.now) (run_of traces.now).asks ≡ true }
 {
     if changes.count() > FEW {
         return true;
     }
-    has_key(hashing, marks, changes)
-}
-
-/// Whether one of these keys has its mark.
-fn has_key(hashing: Hashing, marks: &KeyFilter, keys: &Changes) -> bool
-    ensures { result ≡ list_any (λ k. has marks.now (bit_of hashing k)) (keys_in keys.now) }
-{
-    for i in 0..keys.count() {
-        if marks.has(bit_of(hashing, keys.key(i))) {
+    for i in 0..changes.count() {
+        if asks_key(hashing, chunk, traces, changes.key(i)) {
             return true;
         }
     }
     false
+}
+
+/// Whether they ask this key.
+fn asks_key(hashing: Hashing, chunk: &Chunk, traces: &[Trace], key: Key) -> bool
+    requires { IsChunkOf hashing traces.now chunk.now }
+    ensures { result ≡ is_asked traces.now key }
+{
+    if !chunk.reads.has(mark_of(hashing, key)) {
+        return false;
+    }
+    traces.iter().any(|trace| is_among(trace.asks(), key))
+}
+
+/// Whether this key is one of those that were asked.
+fn is_among(asks: &[Asked], key: Key) -> bool
+    ensures { result ≡ list_any (λ asked. same_key asked.key key) asks.now }
+{
+    asks.iter().any(|asked| asked.key == key)
 }
 
 /// Whether the lines of a chunk, which did this, may put a changed key. Their puts are gone through only for a key that has its mark.
@@ -588,7 +673,7 @@ fn puts_key(hashing: Hashing, chunk: &Chunk, traces: &[Trace], key: Key) -> bool
     requires { IsChunkOf hashing traces.now chunk.now }
     ensures { result ≡ is_some (last_put_by (puts_of traces.now) key) }
 {
-    if !chunk.puts.has(bit_of(hashing, key)) {
+    if !chunk.puts.has(mark_of(hashing, key)) {
         return false;
     }
     last_put(traces, &key).is_some()

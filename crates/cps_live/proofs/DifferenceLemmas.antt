@@ -37,7 +37,7 @@ use Rattle.cps_final.proofs.DecideLemmas.{option-decides, name-decides}
 use Rattle.cps_final.specs.Agreeing.{same_value, same_at}
 use Rattle.cps_final.proofs.AnswerLemmas.{value-decides}
 use Rattle.cps_chunk.specs.declared.key_filter.KeyFilter.{KeyFilter}
-use Rattle.cps_chunk.specs.KeyFilter.{AreMarked, has, bit_of, keys_named}
+use Rattle.cps_chunk.specs.KeyFilter.{AreMarked, has, mark_of, keys_named}
 use Rattle.cps_chunk.proofs.AbsentLemmas.{each-named}
 use Rattle.cps_final.specs.Code.Ends.{was_of, now_of}
 use Rattle.cps_final.specs.declared.ends.Ends.{Ends}
@@ -87,7 +87,7 @@ apart p (other ∷ labels) none name here =
 
 module _ (hashing : Hashing) (m : KeyFilter) where
   abbrev pub label-has : Name → Bool
-  label-has name = has m (bit_of hashing (key.Label name))
+  label-has name = has m (mark_of hashing (key.Label name))
 
   pub none-among : (labels : List Name) → list_any label-has labels ≡ false → (ts : List Trace) → AreMarked hashing m (keys_named ts)
       → list_all (λ name. not (is-among labels name)) (names_in ts).labels ≡ true

@@ -4,13 +4,13 @@ ghost use Rattle.std.specs.List.{list_any};
 ghost use Rattle.cps_expr.specs.Value.{same_name};
 ghost use Rattle.cps_state.specs.Course.{Trace as Did};
 ghost use Rattle.cps_state.specs.declared.key.Key.TheVariants as key;
-ghost use Rattle.cps_chunk.specs.KeyFilter.{AreMarked, has, keys_named, bit_of};
+ghost use Rattle.cps_chunk.specs.KeyFilter.{AreMarked, has, keys_named, mark_of};
 ghost use Rattle.cps_final.specs.NamedFinals.{names_in, all_pass};
 ghost use Rattle.cps_live.specs.Code.NamesRead.{has_name};
 ghost use Rattle.cps_live.specs.Code.Differences.{passes, AreExact, AreKnown, PlacesStandIn, IsListed};
 
 use crate::names_read::NamesRead;
-use cps_chunk::{KeyFilter, bit_of};
+use cps_chunk::{KeyFilter, mark_of};
 use cps_expr::is_same_name;
 use cps_final::{Ends, Naming};
 use cps_state::{Hashing, Key};
@@ -114,11 +114,11 @@ impl<'a> Differences<'a> {
 
 /// Whether one of some labels has its mark.
 fn has_label(hashing: Hashing, marks: &KeyFilter, labels: &[Name]) -> bool
-    ensures { result ≡ list_any (λ name. has marks.now (bit_of hashing (key.Label name))) labels.now }
+    ensures { result ≡ list_any (λ name. has marks.now (mark_of hashing (key.Label name))) labels.now }
 {
     labels
         .iter()
-        .any(|name| marks.has(bit_of(hashing, Key::Label(*name))))
+        .any(|name| marks.has(mark_of(hashing, Key::Label(*name))))
 }
 
 /// Whether one of some labels is read.

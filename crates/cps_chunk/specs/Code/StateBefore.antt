@@ -10,14 +10,14 @@ use Rattle.cps_state.specs.Keys.{State}
 use Rattle.cps_final.specs.Layout.{puts_of}
 use Rattle.cps_chunk.specs.declared.chunk.Chunk.{Chunk}
 use Rattle.cps_chunk.specs.declared.state_before.StateBefore.{StateBefore}
-use Rattle.cps_chunk.specs.KeyFilter.{has, bit_of}
+use Rattle.cps_chunk.specs.KeyFilter.{has, mark_of}
 
 -- in chunks from the last one on
 abbrev pub sought_from : Hashing → List Chunk → List Trace → Key → Option Answer
 sought_from hashing [] traces k = None
 sought_from hashing (chunk ∷ before) traces k =
     let start = length traces - chunk.lines in
-    let here : Option Answer = if has chunk.puts (bit_of hashing k) then last_put (puts_of (drop start traces)) k else None in
+    let here : Option Answer = if has chunk.puts (mark_of hashing k) then last_put (puts_of (drop start traces)) k else None in
     option_or here (sought_from hashing before (take start traces) k)
 
 -- in chunks in their order

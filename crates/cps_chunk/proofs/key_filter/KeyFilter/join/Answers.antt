@@ -1,5 +1,5 @@
 use Rattle.std.proofs.Common.{arith, rules, ◌≡◌, ◌≤◌, length}
-use Rattle.cps_chunk.proofs.MarkLemmas.{joined-none, joined-more, joined-all}
+use Rattle.cps_chunk.proofs.MarkLemmas.{bits-all, joined-none, joined-more, joined-all}
 use Rattle.cps_chunk.proofs.key_filter.KeyFilter.join.Goals as goal
 
 pub loop-i-init : goal.loop-i-init
@@ -14,3 +14,6 @@ pub returns-clause-joined : goal.returns-clause-joined
 returns-clause-joined c =
     let past : length c.args.other.now.bits ≤ c.loop-i.i = search (rules, arith) in
     joined-all c.args.self.now c.args.other.now c.loop-i.self c.loop-i.i past c.loop-i.invariant
+
+pub returns-clause-kept : goal.returns-clause-kept
+returns-clause-kept c = bits-all c.args.self.now c.loop-i.self c.loop-i.invariant.kept

@@ -19,6 +19,7 @@ loop-chunk-init c = record {
   line = c.requires.chunks.first.line;
   news = refl;
   state = refl;
+  sought = c.in_ok-sought.ensures;
   present = c.requires.present;
   ones = refl;
   ones_least = omega arith;
@@ -87,11 +88,11 @@ overflow_add-end c =
       lengths-upto old.chunks.items (i + 1) c.args.past (omega (arith, c.loop-chunk-test.true)),
     )
 
-pub go_over_chunk-requires-clause-walk : goal.go_over_chunk-requires-clause-walk
-go_over_chunk-requires-clause-walk c = c.loop-chunk.invariant.walk.walk
+pub go_over_sought-requires-clause-walk : goal.go_over_sought-requires-clause-walk
+go_over_sought-requires-clause-walk c = c.loop-chunk.invariant.walk.walk
 
-pub go_over_chunk-requires-clause-chunk : goal.go_over_chunk-requires-clause-chunk
-go_over_chunk-requires-clause-chunk c =
+pub go_over_sought-requires-clause-chunk : goal.go_over_sought-requires-clause-chunk
+go_over_sought-requires-clause-chunk c =
     let inv = c.loop-chunk.invariant in
     let past = c.requires.chunks.past.within in
     record {
@@ -99,8 +100,8 @@ go_over_chunk-requires-clause-chunk c =
       within = omega (arith, c.loop-chunk-test.true, past, same-long c.args.self.now.chunks.items c.loop-chunk.self.chunks.items inv.walk.lengths);
     }
 
-pub go_over_chunk-requires-clause-end : goal.go_over_chunk-requires-clause-end
-go_over_chunk-requires-clause-end c =
+pub go_over_sought-requires-clause-end : goal.go_over_sought-requires-clause-end
+go_over_sought-requires-clause-end c =
     let old = c.args.self.now in
     let mid = c.loop-chunk.self in
     let inv = c.loop-chunk.invariant in
@@ -110,17 +111,20 @@ go_over_chunk-requires-clause-end c =
     lengths-next mid.chunks.items i c.index.result.now within c.index.ensures in
     omega (arith, next, inv.line, ap (λ ns. sum (take i ns)) inv.walk.lengths)
 
-pub go_over_chunk-requires-clause-present : goal.go_over_chunk-requires-clause-present
-go_over_chunk-requires-clause-present c = c.loop-chunk.invariant.present
+pub go_over_sought-requires-clause-sought : goal.go_over_sought-requires-clause-sought
+go_over_sought-requires-clause-sought c = c.loop-chunk.invariant.sought
 
-pub returns-in_err-go_over_chunk-clause-walk : goal.returns-in_err-go_over_chunk-clause-walk
-returns-in_err-go_over_chunk-clause-walk c = still-still _ _ _ c.loop-chunk.invariant.walk c.go_over_chunk.ensures.walk
+pub go_over_sought-requires-clause-present : goal.go_over_sought-requires-clause-present
+go_over_sought-requires-clause-present c = c.loop-chunk.invariant.present
 
-pub returns-in_err-go_over_chunk-clause-steps : goal.returns-in_err-go_over_chunk-clause-steps
-returns-in_err-go_over_chunk-clause-steps c =
+pub returns-in_err-go_over_sought-clause-walk : goal.returns-in_err-go_over_sought-clause-walk
+returns-in_err-go_over_sought-clause-walk c = still-still _ _ _ c.loop-chunk.invariant.walk c.go_over_sought.ensures.walk
+
+pub returns-in_err-go_over_sought-clause-steps : goal.returns-in_err-go_over_sought-clause-steps
+returns-in_err-go_over_sought-clause-steps c =
     let inv = c.loop-chunk.invariant in
-    let new = c.in_err-go_over_chunk.ensures.steps in
-    let count = count-all c.args.self.now c.loop-chunk.self c.go_over_chunk.new.self c.requires.walk inv.walk c.loop-chunk.chunk c.args.past c.loop-chunk.line _ c.args.to c.index.result.now c.loop-chunk-test.true c.requires.chunks.past.within c.index.ensures inv.line refl c.requires.chunks.past.line in
+    let new = c.in_err-go_over_sought.ensures.steps in
+    let count = count-all c.args.self.now c.loop-chunk.self c.go_over_sought.new.self c.requires.walk inv.walk c.loop-chunk.chunk c.args.past c.loop-chunk.line _ c.args.to c.index.result.now c.loop-chunk-test.true c.requires.chunks.past.within c.index.ensures inv.line refl c.requires.chunks.past.line in
     record {
       ones = search rules;
       twos = search rules;
@@ -130,29 +134,30 @@ returns-in_err-go_over_chunk-clause-steps c =
       twos_most = omega (arith, inv.twos, new.twos_most);
     }
 
-pub returns-in_err-go_over_chunk-clause-looked : goal.returns-in_err-go_over_chunk-clause-looked
-returns-in_err-go_over_chunk-clause-looked c =
+pub returns-in_err-go_over_sought-clause-looked : goal.returns-in_err-go_over_sought-clause-looked
+returns-in_err-go_over_sought-clause-looked c =
     let inv = c.loop-chunk.invariant in
-    let new = c.go_over_chunk.ensures.looked in
-    let looks = looks-all c.args.self.now c.loop-chunk.self c.go_over_chunk.new.self c.requires.walk inv.walk c.loop-chunk.chunk c.args.past c.loop-chunk.line _ c.args.to c.index.result.now c.loop-chunk-test.true c.requires.chunks.past.within c.index.ensures inv.line refl c.requires.chunks.past.line in
+    let new = c.go_over_sought.ensures.looked in
+    let looks = looks-all c.args.self.now c.loop-chunk.self c.go_over_sought.new.self c.requires.walk inv.walk c.loop-chunk.chunk c.args.past c.loop-chunk.line _ c.args.to c.index.result.now c.loop-chunk-test.true c.requires.chunks.past.within c.index.ensures inv.line refl c.requires.chunks.past.line in
     record { least = omega (arith, inv.looked_least, new.least); most = looked-within _ _ _ _ _ _ new.most looks inv.looked }
 
 pub loop-chunk-preserved : goal.loop-chunk-preserved
 loop-chunk-preserved c =
     let inv = c.loop-chunk.invariant in
-    let new = c.in_ok-go_over_chunk.ensures in
-    let still = c.go_over_chunk.ensures.walk in
-    let next : sum (take (c.loop-chunk.chunk + 1) (lengths_of c.args.self.now.chunks.items)) ≡ c.loop-chunk.line + c.index.result.now.lines = chunk-ends c.args.self.now c.loop-chunk.self c.go_over_chunk.new.self c.requires.walk inv.walk c.loop-chunk.chunk c.args.past c.loop-chunk.line _ c.args.to c.index.result.now c.loop-chunk-test.true c.requires.chunks.past.within c.index.ensures inv.line refl c.requires.chunks.past.line in
+    let new = c.in_ok-go_over_sought.ensures in
+    let still = c.go_over_sought.ensures.walk in
+    let next : sum (take (c.loop-chunk.chunk + 1) (lengths_of c.args.self.now.chunks.items)) ≡ c.loop-chunk.line + c.index.result.now.lines = chunk-ends c.args.self.now c.loop-chunk.self c.go_over_sought.new.self c.requires.walk inv.walk c.loop-chunk.chunk c.args.past c.loop-chunk.line _ c.args.to c.index.result.now c.loop-chunk-test.true c.requires.chunks.past.within c.index.ensures inv.line refl c.requires.chunks.past.line in
     record {
       walk = still-still _ _ _ inv.walk still;
       line = sym next;
-      news = next-news c.args.self.now c.loop-chunk.self c.go_over_chunk.new.self c.requires.walk inv.walk c.loop-chunk.chunk c.args.past c.loop-chunk.line _ c.args.to c.index.result.now c.loop-chunk-test.true c.requires.chunks.past.within c.index.ensures inv.line refl c.requires.chunks.past.line new.over still.base _ inv.news;
-      state = next-state c.args.self.now c.loop-chunk.self c.go_over_chunk.new.self c.requires.walk inv.walk c.loop-chunk.chunk c.args.past c.loop-chunk.line _ c.args.to c.index.result.now c.loop-chunk-test.true c.requires.chunks.past.within c.index.ensures inv.line refl c.requires.chunks.past.line new.over still.base _ inv.state;
+      news = next-news c.args.self.now c.loop-chunk.self c.go_over_sought.new.self c.requires.walk inv.walk c.loop-chunk.chunk c.args.past c.loop-chunk.line _ c.args.to c.index.result.now c.loop-chunk-test.true c.requires.chunks.past.within c.index.ensures inv.line refl c.requires.chunks.past.line new.over still.base _ inv.news;
+      state = next-state c.args.self.now c.loop-chunk.self c.go_over_sought.new.self c.requires.walk inv.walk c.loop-chunk.chunk c.args.past c.loop-chunk.line _ c.args.to c.index.result.now c.loop-chunk-test.true c.requires.chunks.past.within c.index.ensures inv.line refl c.requires.chunks.past.line new.over still.base _ inv.state;
+      sought = new.sought;
       present = new.over.present;
-      ones = counted-left _ _ _ _ _ _ new.steps.ones (next-count c.args.self.now c.loop-chunk.self c.go_over_chunk.new.self c.requires.walk inv.walk c.loop-chunk.chunk c.args.past c.loop-chunk.line _ c.args.to c.index.result.now c.loop-chunk-test.true c.requires.chunks.past.within c.index.ensures inv.line refl c.requires.chunks.past.line new.over still.base) inv.ones;
+      ones = counted-left _ _ _ _ _ _ new.steps.ones (next-count c.args.self.now c.loop-chunk.self c.go_over_sought.new.self c.requires.walk inv.walk c.loop-chunk.chunk c.args.past c.loop-chunk.line _ c.args.to c.index.result.now c.loop-chunk-test.true c.requires.chunks.past.within c.index.ensures inv.line refl c.requires.chunks.past.line new.over still.base) inv.ones;
       ones_least = omega (arith, inv.ones_least, new.steps.ones_least);
       twos = omega (arith, inv.twos, new.steps.twos_least, new.steps.twos_most);
-      looked = looked-over _ _ _ _ _ _ new.looked.most (next-looks c.args.self.now c.loop-chunk.self c.go_over_chunk.new.self c.requires.walk inv.walk c.loop-chunk.chunk c.args.past c.loop-chunk.line _ c.args.to c.index.result.now c.loop-chunk-test.true c.requires.chunks.past.within c.index.ensures inv.line refl c.requires.chunks.past.line new.over still.base) inv.looked;
+      looked = looked-over _ _ _ _ _ _ new.looked.most (next-looks c.args.self.now c.loop-chunk.self c.go_over_sought.new.self c.requires.walk inv.walk c.loop-chunk.chunk c.args.past c.loop-chunk.line _ c.args.to c.index.result.now c.loop-chunk-test.true c.requires.chunks.past.within c.index.ensures inv.line refl c.requires.chunks.past.line new.over still.base) inv.looked;
       looked_least = omega (arith, inv.looked_least, new.looked.least);
     }
 

@@ -7,6 +7,7 @@ use Rattle.cps_chunk.specs.Code.Chunk.{lengths_of}
 use Rattle.cps_edit.specs.Passes.{state_after}
 use Rattle.cps_chunk.specs.Code.Replay.{now_by}
 use Rattle.cps_chunk.specs.Replayed.{replayed}
+use Rattle.cps_chunk.specs.Code.Sought.{AreSought}
 use Rattle.cps_chunk.specs.Code.Walk.{IsStillWalk, cursor, looks_in, looks_over, now_at, replayed_in, stood_at, stretch}
 use Rattle.cps_chunk.proofs.walk.Walk.go_over_chunks.Given as goal
 
@@ -22,6 +23,7 @@ invariant-loop-chunk l =
       line : l.line ≡ sum (take l.chunk (lengths_of l.fn.self.chunks.items));
       news : l.self.replay.news.items ++ replayed now l.line lines traces ≡ l.fn.self.replay.news.items ++ replayed_in l.fn.self l.fn.first.line l.fn.to;
       state : state_after now lines ≡ state_after (now_at l.fn.self l.fn.first.line) (stretch l.fn.first.line l.fn.to base.lines.now);
+      sought : AreSought l.self.base.hashing l.self.replay.log.changes l.sought;
       present : changes_in l.self.replay.log.present ≡ no_change;
       ones : counted_on l.work.ones (length (replayed now l.line lines traces)) ≡ counted_on l.fn.work.ones (length (replayed_in l.fn.self l.fn.first.line l.fn.to));
       ones_least : l.fn.work.ones ≤ l.work.ones;

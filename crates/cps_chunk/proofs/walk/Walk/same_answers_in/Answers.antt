@@ -1,11 +1,10 @@
-use Rattle.std.proofs.Common.{arith, rules, ◌≡◌, ◌+◌, List, false, refl, sym, subst}
+use Rattle.std.proofs.Common.{arith, rules, ◌≡◌, ◌+◌, List, false, refl, sym, subst, ◌∙◌}
 use Rattle.cps_state.specs.Course.{Trace}
-use Rattle.cps_final.specs.declared.changes.Changes.{Changes}
 use Rattle.cps_final.specs.Code.Kept.{changes_in}
+use Rattle.cps_final.specs.Run.{run_of}
+use Rattle.cps_chunk.specs.Noted.{stands}
 use Rattle.cps_chunk.specs.Code.Chunk.{IsChunkOf}
-use Rattle.cps_chunk.specs.Code.Walk.{stretch}
 use Rattle.cps_chunk.proofs.WalkLemmas.{chunk-at, chunk-set, lengths-set, lengths-grow, lengths-within}
-use Rattle.cps_chunk.proofs.PassedLemmas.{AreUnmarked, unmarked-stands}
 use Rattle.cps_chunk.proofs.walk.Walk.same_answers_in.Goals as goal
 
 pub part-traces-requires-clause-ordered : goal.part-traces-requires-clause-ordered
@@ -17,18 +16,21 @@ part-traces-requires-clause-within c =
     let walk = c.args.self.now in
     omega (arith, c.requires.end, lengths-within walk.base.hashing walk.chunks.items walk.base.traces.now (c.args.cursor.chunk + 1) c.requires.walk.chunks)
 
-pub returns-then-not-may_have-clause-same : goal.returns-then-not-may_have-clause-same
-returns-then-not-may_have-clause-same c =
+pub may_ask-requires : goal.may_ask-requires
+may_ask-requires c =
     let walk = c.args.self.now in
     let d = c.index_mut-chunk.result.now in
-    let out : c.may_have.result ≡ false = search rules in
-    let absent = subst (λ (now : Changes). AreUnmarked walk.base.hashing d.reads (changes_in now)) c.changes.ensures (c.may_have.ensures out) in
-    let is = chunk-at walk.base.hashing walk.chunks.items walk.base.traces.now c.args.cursor.chunk c.args.cursor.line c.args.end d c.requires.within c.index_mut-chunk.ensures.value
-    c.requires.cursor.line c.requires.end c.requires.walk.chunks in
-    sym (unmarked-stands walk.base.hashing d.reads (changes_in walk.replay.log.changes) absent (stretch c.args.cursor.line c.args.end walk.base.traces.now) is.asks)
+    subst (λ (us : List Trace). IsChunkOf walk.base.hashing us d) (sym c.part-traces.ensures)
+    (chunk-at walk.base.hashing walk.chunks.items walk.base.traces.now c.args.cursor.chunk c.args.cursor.line c.args.end d c.requires.within c.index_mut-chunk.ensures.value
+    c.requires.cursor.line c.requires.end c.requires.walk.chunks)
 
-pub returns-then-not-may_have-clause-walk : goal.returns-then-not-may_have-clause-walk
-returns-then-not-may_have-clause-walk c =
+pub returns-then-not-may_ask-clause-same : goal.returns-then-not-may_ask-clause-same
+returns-then-not-may_ask-clause-same c =
+    let out : c.may_ask.result ≡ false = search rules in
+    sym ((λ i. stands (changes_in (sym c.changes.ensures i)) (run_of (sym c.part-traces.ensures i)).asks) ∙ c.may_ask.ensures out)
+
+pub returns-then-not-may_ask-clause-walk : goal.returns-then-not-may_ask-clause-walk
+returns-then-not-may_ask-clause-walk c =
     let walk = c.args.self.now in
     let d = c.index_mut-chunk.result.now in
     let is = chunk-at walk.base.hashing walk.chunks.items walk.base.traces.now c.args.cursor.chunk c.args.cursor.line c.args.end d c.requires.within c.index_mut-chunk.ensures.value

@@ -1,0 +1,11 @@
+use Rattle.std.proofs.Common.{rules, ◌≡◌, false, ap, sym, ◌∙◌}
+use Rattle.cps_chunk.specs.KeyFilter.{has, mark_of}
+use Rattle.cps_chunk.proofs.AbsentLemmas.{not-among-asks}
+use Rattle.cps_chunk.proofs.walk.asks_key.Goals as goal
+
+pub returns-then-not-has : goal.returns-then-not-has
+returns-then-not-has c =
+    let marks = c.args.chunk.now.reads in
+    let out : c.has.result ≡ false = search rules in
+    let absent : has marks (mark_of c.args.hashing c.args.key) ≡ false = ap (has marks) (sym c.mark_of.ensures.mark) ∙ sym c.has.ensures ∙ out in
+    sym (not-among-asks c.args.hashing marks c.args.key absent c.args.traces.now c.requires.asks)
