@@ -74,13 +74,13 @@ impl KeptPassOne {
         Ok(outcomes)
     }
 
-    /// What was gathered of the lines.
-    pub(crate) fn into_gather(self) -> Gather
-        ensures { Gathers (⟦<Finals as Gathered>⟧.gathered result) self }
+    /// What each line does, and what was gathered of the lines.
+    pub(crate) fn into_parts(self) -> (Vec<Trace>, Gather)
+        ensures traces { result.0.items ≡ self }
+        ensures gather { Gathers (⟦<Finals as Gathered>⟧.gathered result.1) self }
     {
         let KeptPassOne { traces, gather } = self;
-        drop(traces);
-        gather
+        (traces, gather)
     }
 }
 

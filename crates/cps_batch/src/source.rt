@@ -1,12 +1,13 @@
 //! A source that is assembled whole.
 ghost use Rattle.std.specs.Prelude.{◌≡◌, ◌≤◌, length, IfOk};
+ghost use Rattle.cps_edit.specs.Assembly.{traces_of};
 ghost use Rattle.cps_edit.specs.Flagged.{flagged_lines as flagged_in};
 
 use crate::kept_pass_one::KeptPassOne;
 use cps_edit::flagged_lines;
 use cps_final::{Finals, Gather, Gathered, Outcome};
 use cps_list::View;
-use cps_state::Hashing;
+use cps_state::{Hashing, Trace};
 use cps_text::Line;
 use cps_text::limits::MOST_LINES;
 use std::alloc::{AllocError, Global};
@@ -82,13 +83,37 @@ impl Source {
         requires { length lines.items ≤ MOST_LINES }
         ensures { IfOk result (λ source. source ≡ lines.items) }
     {
+        let (source, traces) = Source::with_traces(alloc, hashing, lines)?;
+        drop(traces);
+        Ok(source)
+    }
+
+    /// Of these lines, and what each does in pass one, which the source doesn't keep.
+    pub fn with_traces(
+        alloc: Global,
+        hashing: Hashing,
+        lines: Vec<Line>,
+    ) -> Result<(Source, Vec<Trace>), AllocError>
+        requires { length lines.items ≤ MOST_LINES }
+        ensures source { IfOk result (λ made. made.0 ≡ lines.items) }
+        ensures traces { IfOk result (λ made. made.1.items ≡ traces_of lines.items) }
+    {
         let one = KeptPassOne::of(alloc, hashing, &lines)?;
         let outcomes = one.make_outcomes(alloc)?;
-        Ok(Source {
+        let (traces, gather) = one.into_parts();
+        let source = Source {
             lines,
             outcomes,
-            gather: one.into_gather(),
-        })
+            gather,
+        };
+        Ok((source, traces))
+    }
+
+    /// The lines.
+    pub fn lines(&self) -> &[Line]
+        ensures { result.now ≡ self.now }
+    {
+        self.lines.as_slice()
     }
 
     /// How many lines have a flag, and one more if a range is open after the last. Takes no memory.

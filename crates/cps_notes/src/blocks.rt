@@ -1,24 +1,26 @@
 //! Where the blocks of a source stand.
 
 use cps_batch::Source;
-use cps_cause::Card;
-use cps_expr::Operation;
 use cps_final::Finals;
 use cps_list::View;
 use cps_page::Block;
-use cps_state::{Answer, Hashing, Key, Lookup};
+use cps_state::{Answer, Hashing, Key, Lookup, Trace};
 use cps_text::Name;
 use std::alloc::{AllocError, Global};
 use std::collections::HashMap;
 
 /// The blocks that have words, and the literals, by their addresses.
-pub fn list_blocks(alloc: Global, source: &Source) -> Result<Vec<Block>, AllocError> {
+pub fn list_blocks(
+    alloc: Global,
+    source: &Source,
+    traces: &[Trace],
+) -> Result<Vec<Block>, AllocError> {
     let finals = source.finals();
     let mut blocks = Vec::new(alloc);
     push_block(alloc, &mut blocks, b"nominal", 0, words_in(finals, None))?;
     push_literals(alloc, &mut blocks, finals)?;
     let mut named = NamedBlocks::of(alloc, finals.hashing());
-    named.take_lines(source)?;
+    named.take_lines(traces)?;
     for name in &named.names {
         if let Some(base) = finals.base(Some(*name)) {
             let words = words_in(finals, Some(*name));
@@ -49,36 +51,20 @@ impl NamedBlocks {
         }
     }
 
-    /// Takes all lines.
-    fn take_lines(&mut self, source: &Source) -> Result<(), AllocError> {
-        for before in 0..source.count() {
-            let number = before.saturating_add(1);
-            if let (Some(line), Some(outcome)) = (source.line(number), source.outcome(number)) {
-                self.take(line.bytes())?;
-                for row in outcome.rows() {
-                    if row.depth > 0 {
-                        self.take(row.text.as_slice())?;
-                    }
+    /// Takes what lines do in pass one: where one is put into a block, it puts the block's counter.
+    fn take_lines(&mut self, traces: &[Trace]) -> Result<(), AllocError> {
+        for trace in traces {
+            for put in trace.puts() {
+                if let Key::Counter(Some(name)) = put.key {
+                    self.take(name)?;
                 }
             }
         }
         Ok(())
     }
 
-    /// Takes a statement.
-    fn take(&mut self, statement: &[u8]) -> Result<(), AllocError> {
-        let card = Card::of(statement);
-        let Some(Operation::Use) = Operation::named(card.operation_text()) else {
-            return Ok(());
-        };
-        let tail = card.tail();
-        let end = tail
-            .iter()
-            .position(|byte| *byte == b' ')
-            .unwrap_or(tail.len());
-        let Some(name) = Name::read(tail.split_at(end.min(tail.len())).0) else {
-            return Ok(());
-        };
+    /// Takes a block.
+    fn take(&mut self, name: Name) -> Result<(), AllocError> {
         if self.known.get(&name).is_none() {
             self.known.insert(name, true)?;
             self.names.push(name)?;

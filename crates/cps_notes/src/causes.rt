@@ -1,6 +1,6 @@
 //! Why lines are flagged.
 
-use cps_batch::{KeptPassOne, Source};
+use cps_batch::Source;
 use cps_cause::{
     Card, Diagnostic, LinesAbove, Origin, Places, explain, explain_end, line_of_opener,
 };
@@ -14,41 +14,28 @@ use cps_text::Line;
 use std::alloc::{AllocError, Global};
 
 /// The causes of all flags, by their lines; the last is that of a range that is open at the end. A source without a flag isn't gone through.
-pub fn list_causes(alloc: Global, source: &Source) -> Result<Vec<Cause>, AllocError> {
+pub fn list_causes(
+    alloc: Global,
+    source: &Source,
+    traces: &[Trace],
+) -> Result<Vec<Cause>, AllocError> {
     let mut causes = Vec::new(alloc);
     if source.flagged_lines() == 0 {
         return Ok(causes);
     }
-    let lines = copy_lines(alloc, source)?;
-    let one = KeptPassOne::of(alloc, source.finals().hashing(), &lines)?;
-    list_of_lines(source, &lines, one.traces(), &mut causes)?;
-    list_of_end(alloc, source, one.traces(), &mut causes)?;
+    list_of_lines(source, traces, &mut causes)?;
+    list_of_end(alloc, source, traces, &mut causes)?;
     Ok(causes)
-}
-
-/// The lines once more.
-fn copy_lines(alloc: Global, source: &Source) -> Result<Vec<Line>, AllocError> {
-    let mut lines = Vec::new(alloc);
-    for before in 0..source.count() {
-        if let Some(line) = source.line(before.saturating_add(1)) {
-            match Line::new(alloc, line.bytes()) {
-                Ok(copy) => lines.push(copy)?,
-                Err(_) => return Err(AllocError),
-            }
-        }
-    }
-    Ok(lines)
 }
 
 fn list_of_lines(
     source: &Source,
-    lines: &[Line],
     traces: &[Trace],
     causes: &mut Vec<Cause>,
 ) -> Result<(), AllocError> {
     let alloc = *causes.allocator();
     let hashing = source.finals().hashing();
-    let mut places = KnownPlaces::of(alloc, hashing, lines, traces)?;
+    let mut places = KnownPlaces::of(alloc, hashing, source.lines(), traces)?;
     let mut number: u32 = 0;
     for trace in traces {
         number = number.saturating_add(1);

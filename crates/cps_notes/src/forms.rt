@@ -6,7 +6,10 @@ use cps_expr::Machine;
 use cps_final::{OctalDigits, Row};
 use cps_list::View;
 use cps_page::{Form, FormUse};
+use cps_state::Hashing;
+use cps_text::Name;
 use std::alloc::{AllocError, Global};
+use std::collections::HashMap;
 
 /// The forms of instructions, as lines are gone through.
 #[derive(Drop)]
@@ -15,9 +18,16 @@ pub struct FormLister {
     machine: Machine,
     /// Those of all operations that occur.
     forms: Vec<Form>,
-    /// Operations that have no form.
-    others: Vec<Vec<u8>>,
+    /// Where those of an operation stand.
+    known: HashMap<Name, FormRange, Hashing>,
     uses: Vec<FormUse>,
+}
+
+/// Where the forms of an operation stand: behind so many, and up to so many.
+#[derive(Clone, Copy)]
+struct FormRange {
+    before: usize,
+    end: usize,
 }
 
 impl FormLister {
@@ -27,7 +37,7 @@ impl FormLister {
             alloc,
             machine: view.finals().machine(),
             forms: Vec::new(alloc),
-            others: Vec::new(alloc),
+            known: HashMap::with_hasher(alloc, view.finals().hashing()),
             uses: Vec::new(alloc),
         }
     }
@@ -38,10 +48,10 @@ impl FormLister {
             alloc: _,
             machine: _,
             forms,
-            others,
+            known,
             uses,
         } = self;
-        drop(others);
+        drop(known);
         (forms, uses)
     }
 
@@ -101,24 +111,27 @@ impl FormLister {
     /// How many forms stand before that of a statement with a code.
     fn find(&mut self, statement: &[u8], code: OctalDigits) -> Result<Option<u32>, AllocError> {
         let card = Card::of(statement);
-        let name = card.operation_text();
-        if self.is_new(name) {
-            self.add(name)?;
-        }
-        Ok(self.closest(name, code))
+        let operation = card.operation_text();
+        let Some(name) = Name::read(operation) else {
+            return Ok(None);
+        };
+        let range = match self.known.get(&name) {
+            Some(range) => *range,
+            None => self.add(name, operation)?,
+        };
+        Ok(self.closest(range, code))
     }
 
-    /// The form of an operation that has a code, and of several the first of those with the fewest fields.
-    fn closest(&self, name: &[u8], code: OctalDigits) -> Option<u32> {
+    /// The form among some that has a code, and of several the first of those with the fewest fields.
+    fn closest(&self, range: FormRange, code: OctalDigits) -> Option<u32> {
         let mut found = None;
         let mut most = 0;
-        for (at, form) in self.forms.iter().enumerate() {
-            if is_named(form, name) && has_code(form, code) {
-                let digits = form
-                    .code
-                    .iter()
-                    .filter(|letter| letter.is_ascii_digit())
-                    .count();
+        for at in range.before..range.end {
+            let Some(form) = self.forms.get(at) else {
+                return found;
+            };
+            if has_code(form, code) {
+                let digits = count_digits(form);
                 if found.is_none() || digits > most {
                     found = Some(index(at));
                     most = digits;
@@ -128,22 +141,41 @@ impl FormLister {
         found
     }
 
-    /// Whether an operation hasn't occurred yet.
-    fn is_new(&self, name: &[u8]) -> bool {
-        !self.forms.iter().any(|form| is_named(form, name))
-            && !self.others.iter().any(|other| other.as_slice() == name)
+    /// Adds an operation, and its forms, if they aren't those of another register.
+    fn add(&mut self, name: Name, operation: &[u8]) -> Result<FormRange, AllocError> {
+        let mut range = self.range_of(operation);
+        if range.before == range.end {
+            push_forms(self.alloc, &mut self.forms, self.machine, operation)?;
+            range = self.range_of(operation);
+        }
+        self.known.insert(name, range)?;
+        Ok(range)
     }
 
-    /// Adds the forms of an operation.
-    fn add(&mut self, name: &[u8]) -> Result<(), AllocError> {
-        push_forms(self.alloc, &mut self.forms, self.machine, name)?;
-        if self.is_new(name) {
-            let mut other = Vec::new(self.alloc);
-            other.extend_from_slice(name)?;
-            self.others.push(other)?;
+    /// Where the forms of an operation stand, which are one behind another.
+    fn range_of(&self, operation: &[u8]) -> FormRange {
+        let mut range = FormRange { before: 0, end: 0 };
+        for (at, form) in self.forms.iter().enumerate() {
+            if is_named(form, operation) {
+                if range.end == 0 {
+                    range.before = at;
+                }
+                range.end = at.saturating_add(1);
+            }
         }
-        Ok(())
+        range
     }
+}
+
+/// How many digits of a form's code are no fields.
+fn count_digits(form: &Form) -> usize {
+    let mut count: usize = 0;
+    for letter in &form.code {
+        if letter.is_ascii_digit() {
+            count = count.saturating_add(1);
+        }
+    }
+    count
 }
 
 /// Whether a code is one of a form. Each operation of a peripheral processor has one form.

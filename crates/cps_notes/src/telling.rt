@@ -5,13 +5,14 @@ use crate::causes::list_causes;
 use crate::forms::FormLister;
 use cps_batch::Source;
 use cps_page::Beside;
+use cps_state::Trace;
 use std::alloc::{AllocError, Global};
 
-/// What a page of a source tells beside its texts. Causes are those of a check of the lines; sentences are the manual's; a block ends where its next
-/// word would stand. Fails only without memory.
-pub fn tell_beside(alloc: Global, source: &Source) -> Result<Beside, AllocError> {
-    let causes = list_causes(alloc, source)?;
-    let blocks = list_blocks(alloc, source)?;
+/// What a page of a source tells beside its texts, from what its lines do in pass one. Causes are those of a check of the lines; sentences are the
+/// manual's; a block ends where its next word would stand. Fails only without memory.
+pub fn tell_beside(alloc: Global, source: &Source, traces: &[Trace]) -> Result<Beside, AllocError> {
+    let causes = list_causes(alloc, source, traces)?;
+    let blocks = list_blocks(alloc, source, traces)?;
     let mut lister = FormLister::of(alloc, source);
     lister.take_lines(source)?;
     let (forms, uses) = lister.into_parts();

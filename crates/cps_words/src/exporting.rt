@@ -1,5 +1,5 @@
 //! A source that is read whole, assembled, and written into files.
-ghost use Rattle.std.specs.Prelude.{◌≡◌, ◌≤◌, ◌+◌, IfOk, OnOk, OnErr, option_map};
+ghost use Rattle.std.specs.Prelude.{◌≡◌, ◌≤◌, ◌+◌, length, IfOk, OnOk, OnErr, option_map};
 ghost use Rattle.cps_text.specs.Counted.{calls_of};
 ghost use Rattle.cps_input.specs.Sources.{IsSource};
 ghost use Rattle.cps_edit.specs.Assembly.{assembly_of};
@@ -17,7 +17,8 @@ use cps_input::read_lines;
 use cps_list::{ListFault, Part, make_text, write_text};
 use cps_notes::tell_beside;
 use cps_page::make_page_of;
-use cps_text::limits::MOST_READS;
+use cps_state::Trace;
+use cps_text::limits::{MOST_LINES, MOST_READS};
 use cps_text::{Counted, Line};
 use std::alloc::{AllocError, Global};
 use std::io::{Read, Write};
@@ -55,13 +56,14 @@ fn export_lines<'a, T: Targets, W: Write>(
     ensures made { Makes W.contents (wanted_of export.entry) result lines.items (T.placed targets.old) (T.placed targets.new) writer.old writer.new }
     ensures waiting { T.waiting targets.new ≡ T.waiting targets.old }
 {
-    let Ok(source) = Source::of(alloc, export.hashing, lines) else {
+    let Ok(traced) = traced_source(alloc, export, lines) else {
         return Err(ExportFault::Memory);
     };
+    let (source, traces) = traced;
     let Ok(text) = wanted_text(alloc, &source, export.part) else {
         return Err(ExportFault::Memory);
     };
-    let Ok(page) = wanted_page(alloc, &source, export.outputs) else {
+    let Ok(page) = wanted_page(alloc, &source, traces, export.outputs) else {
         return Err(ExportFault::Memory);
     };
     if let Err(fault) = write_outputs(alloc, targets, &source, export.outputs, &page) {
@@ -70,6 +72,24 @@ fn export_lines<'a, T: Targets, W: Write>(
     match write_wanted(writer, &text) {
         Ok(()) => Ok(source.flagged_lines()),
         Err(_) => Err(ExportFault::WriteFault),
+    }
+}
+
+/// A source with these lines, and what each does in pass one, which a page is made from; else nothing of that.
+fn traced_source(
+    alloc: Global,
+    export: Export<'_>,
+    lines: Vec<Line>,
+) -> Result<(Source, Vec<Trace>), AllocError>
+    requires { length lines.items ≤ MOST_LINES }
+    ensures { IfOk result (λ made. made.0 ≡ lines.items) }
+{
+    match export.outputs.page {
+        Some(_) => Source::with_traces(alloc, export.hashing, lines),
+        None => {
+            let source = Source::of(alloc, export.hashing, lines)?;
+            Ok((source, Vec::new(alloc)))
+        }
     }
 }
 
@@ -90,21 +110,26 @@ fn wanted_text(
     }
 }
 
-/// The page of a source, if one is wanted; else nothing.
-fn wanted_page(alloc: Global, source: &Source, outputs: Outputs<'_>) -> Result<Vec<u8>, AllocError>
+/// The page of a source, if one is wanted; else nothing. What the lines do in pass one is let go.
+fn wanted_page(
+    alloc: Global,
+    source: &Source,
+    traces: Vec<Trace>,
+    outputs: Outputs<'_>,
+) -> Result<Vec<u8>, AllocError>
     ensures { IfOk result (λ page. IsPageFor (names_of outputs.entry) source.now page.items) }
 {
     match outputs.page {
-        Some(_) => page_of(alloc, source),
+        Some(_) => page_of(alloc, source, &traces),
         None => Ok(Vec::new(alloc)),
     }
 }
 
 /// The page of a source, with what is told beside its texts.
-fn page_of(alloc: Global, source: &Source) -> Result<Vec<u8>, AllocError>
+fn page_of(alloc: Global, source: &Source, traces: &[Trace]) -> Result<Vec<u8>, AllocError>
     ensures { IfOk result (λ page. IsPageOf (assembly_of source.now) page.items) }
 {
-    let beside = tell_beside(alloc, source)?;
+    let beside = tell_beside(alloc, source, traces)?;
     make_page_of(alloc, source, &beside)
 }
 

@@ -1,6 +1,0 @@
-use Rattle.std.proofs.Common.{ap, ◌∙◌}
-use Rattle.cps_final.specs.Finals.{finals_of}
-use Rattle.cps_batch.proofs.kept_pass_one.KeptPassOne.into_gather.Goals as goal
-
-pub returns : goal.returns
-returns c = c.self.invariant ∙ ap finals_of c.self.view_is
