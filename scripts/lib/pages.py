@@ -80,6 +80,13 @@ def check_links(root, texts):
     if twice:
         raise Fault(f"identifiers that come twice: {twice}")
     known, lines = set(identifiers), defining_lines(texts["symbols"])
+    for element in (element for element in root.iter() if element.get("id") in lines or re.fullmatch(r"w\d+", element.get("id") or "")):
+        name, row = element.get("id"), said(element)
+        if name in lines and row.split(" ", 1)[0] != name or name not in lines and row.split(" ", 1)[0].lstrip("0") != name[1:].lstrip("0"):
+            raise Fault(f"the row at {name!r} is {row!r}")
+    words = {row.split(" ", 1)[0].lstrip("0") or "0" for row in texts["binary"].splitlines()[1:]}
+    if {name[1:] for name in known if re.fullmatch(r"w\d+", name)} != words:
+        raise Fault("the words that can be led to aren't those of the binary text")
     for link in (element for element in root.iter() if local(element) == "a"):
         target, words = link.get("href", ""), said(link)
         if not target.startswith("#") or target[1:] not in known:

@@ -1,5 +1,5 @@
 -- Identifiers of places, kind by kind.
-use Rattle.std.proofs.Common.{◌≡◌, ℕ, ◌+◌, ◌-◌, ◌%◌, ◌<◌, ◌≤◌, ◌^◌, Bool, true, false, true≢false, ◌&&◌, ◌||◌, ◌==◌, refl, sym, ap, ◌∙◌, List, [], ◌∷◌, ◌++◌, get_or, decimal, arith}
+use Rattle.std.proofs.Common.{◌≡◌, ℕ, zero, suc, ◌+◌, ◌-◌, ◌%◌, ◌<◌, ◌≤◌, ◌^◌, Bool, true, false, true≢false, ◌&&◌, ◌||◌, ◌==◌, refl, sym, ap, ◌∙◌, List, [], ◌∷◌, ◌++◌, get_or, take, drop, decimal, arith}
 use Rattle.std.specs.Prelude.{codes, Some, None, is_some, length, nat_eq, nat_le, nat_lt, not, if◌then◌else◌}
 use Rattle.std.specs.List.{list_all}
 use Rattle.std.specs.Str.Parse.{digits_value}
@@ -10,7 +10,7 @@ use Rattle.cps_text.specs.declared.name.Name.{Name}
 use Rattle.cps_text.specs.Name.{name_of, name_text}
 use Rattle.cps_text.specs.Symbol.{begins_symbol, continues_symbol, is_generated, is_name, is_register, is_symbol, padded}
 use Rattle.cps_text.specs.Text.{among, capital, capitals, is_digit}
-use Rattle.cps_markup.specs.declared.place.Place.TheVariants.{Line, Symbol, Section}
+use Rattle.cps_markup.specs.declared.place.Place.TheVariants.{Line, Symbol, Word, Section}
 use Rattle.cps_markup.specs.declared.place.PageSection.{PageSection}
 use Rattle.cps_markup.specs.declared.place.PageSection.TheVariants as page
 use Rattle.cps_markup.specs.Places.{section_name}
@@ -118,6 +118,43 @@ section-with page.Instructions = refl
 same-section : (a b : PageSection) → section_name a ≡ section_name b → a ≡ b
 same-section a b same = sym (section-with a) ∙ ap (λ text. section_with (get_or text 0 0)) same ∙ section-with b
 
+-- ---- words
+
+-- a name has no small letter
+named-is : (text : List ℕ) (name : Name) → name_of text ≡ Some name → name ≡ record { bytes = padded (capitals text) }
+named-is text name is =
+    elim (is_name (capitals text)) as (λ b. (if b then Some (record { bytes = padded (capitals text) }) else None) ≡ Some name → name ≡ record { bytes = padded (capitals text) }) [
+      | true ↦ λ e. same_Some name (record { bytes = padded (capitals text) }) (sym e)
+      | false ↦ λ e. absurd (true≢false (sym (ap is_some e)))
+    ] is
+
+head-taken : (k : ℕ) (text : List ℕ) (c : ℕ) (rest : List ℕ) → take k text ≡ c ∷ rest → get_or text 0 0 ≡ c
+head-taken zero text c rest same = absurd (let long = ap length same in omega (arith, long))
+head-taken (suc k) [] c rest same = absurd (let long = ap length same in omega (arith, long))
+head-taken (suc k) (d ∷ text) c rest same = ap (λ t. get_or t 0 0) same
+
+word-no-symbol : (n : ℕ) (name : Name) → name_of (name_text name) ≡ Some name → codes "w" ++ decimal n ≡ name_text name → ⊥
+word-no-symbol n name written same =
+    let is = named-is (name_text name) name written in
+    let small : get_or name.bytes 0 0 ≡ 119 = head-taken _ name.bytes 119 (decimal n) (sym same) in
+    let large : get_or name.bytes 0 0 ≡ 87 = ap (λ (m : Name). get_or m.bytes 0 0) is ∙ ap (λ t. get_or (padded (capitals t)) 0 0) (sym same) in
+    omega (arith, small, large)
+
+word-no-line : (n m : ℕ) → m < 2 ^ 64 → codes "w" ++ decimal n ≡ decimal m → ⊥
+word-no-line n m small same = let b = number-begins m small in let e : b.0 ≡ 119 = ap (λ t. get_or t 0 0) (sym b.1.1.0 ∙ sym same) in let h = b.1.1.1.1 in omega (arith, e, h)
+
+word-no-section : (n : ℕ) (section : PageSection) → n < 2 ^ 64 → codes "w" ++ decimal n ≡ section_name section → ⊥
+word-no-section n page.Memory small same = let e : 119 ≡ 109 = ap (λ t. get_or t 0 0) same in omega (arith, e)
+word-no-section n page.Listing small same = let e : 119 ≡ 108 = ap (λ t. get_or t 0 0) same in omega (arith, e)
+word-no-section n page.Words small same =
+    let b = number-begins n small in
+    let e : b.0 ≡ 111 = ap (λ t. get_or t 0 0) (sym b.1.1.0) ∙ ap (λ t. get_or (drop 1 t) 0 0) same in
+    let h = b.1.1.1.1 in
+    omega (arith, e, h)
+word-no-section n page.Symbols small same = let e : 119 ≡ 115 = ap (λ t. get_or t 0 0) same in omega (arith, e)
+word-no-section n page.Flags small same = let e : 119 ≡ 102 = ap (λ t. get_or t 0 0) same in omega (arith, e)
+word-no-section n page.Instructions small same = let e : 119 ≡ 105 = ap (λ t. get_or t 0 0) same in omega (arith, e)
+
 -- ---- places
 
 small : (n : ℕ) → n < 2 ^ 32 → n < 2 ^ 64
@@ -129,10 +166,17 @@ same-number a b low high same = sym (decimal_is_IsNumeral a (small a low)).1 ∙
 pub identifiers-differ : IdentifiersDiffer
 identifiers-differ (Line a) (Line b) wa wb same = ap Line (same-number a b wa wb same)
 identifiers-differ (Line a) (Symbol b) wa wb same = absurd (number-no-name a b (small a wa) wb same)
+identifiers-differ (Line a) (Word b) wa wb same = absurd (word-no-line b a (small a wa) (sym same))
 identifiers-differ (Line a) (Section b) wa wb same = absurd (number-no-section a b (small a wa) same)
 identifiers-differ (Symbol a) (Line b) wa wb same = absurd (number-no-name b a (small b wb) wa (sym same))
 identifiers-differ (Symbol a) (Symbol b) wa wb same = ap Symbol (same_Some a b (sym wa ∙ ap name_of same ∙ wb))
+identifiers-differ (Symbol a) (Word b) wa wb same = absurd (word-no-symbol b a wa (sym same))
+identifiers-differ (Word a) (Line b) wa wb same = absurd (word-no-line a b (small b wb) same)
+identifiers-differ (Word a) (Symbol b) wa wb same = absurd (word-no-symbol a b wb same)
+identifiers-differ (Word a) (Word b) wa wb same = ap Word (same-number a b wa wb (ap (drop 1) same))
+identifiers-differ (Word a) (Section b) wa wb same = absurd (word-no-section a b (small a wa) same)
 identifiers-differ (Symbol a) (Section b) wa wb same = absurd (symbol-no-section a b wa same)
 identifiers-differ (Section a) (Line b) wa wb same = absurd (number-no-section b a (small b wb) (sym same))
 identifiers-differ (Section a) (Symbol b) wa wb same = absurd (symbol-no-section b a wb (sym same))
+identifiers-differ (Section a) (Word b) wa wb same = absurd (word-no-section b a (small b wb) (sym same))
 identifiers-differ (Section a) (Section b) wa wb same = ap Section (same-section a b same)

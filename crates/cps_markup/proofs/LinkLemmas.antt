@@ -1,7 +1,7 @@
 -- Links that may be written.
 use Rattle.std.proofs.Common.{◌≡◌, ℕ, subst, List}
 use Rattle.cps_text.specs.declared.name.Name.{Name}
-use Rattle.cps_markup.specs.declared.place.Place.TheVariants.{Line, Symbol, Section}
+use Rattle.cps_markup.specs.declared.place.Place.TheVariants.{Line, Symbol, Word, Section}
 use Rattle.cps_markup.specs.declared.place.PageSection.{PageSection}
 use Rattle.cps_markup.specs.declared.targets.Targets.{Targets}
 use Rattle.cps_markup.specs.Links.{HasPlace, IsHome, Leads}
@@ -21,3 +21,6 @@ leads-symbol targets words name there = record { there = there; home = λ other 
 
 pub leads-section : (targets : Targets) (words : List ℕ) (section : PageSection) → Leads targets (record { place = Section section; words = words })
 leads-section targets words section = record { there = tt; home = λ other same. absurd (let e : Section section ≡ Line other = same in cc) }
+
+pub leads-word : (targets : Targets) (words : List ℕ) (digits : ℕ) → HasPlace targets (Word digits) → Leads targets (record { place = Word digits; words = words })
+leads-word targets words digits there = record { there = there; home = λ other same. absurd (let e : Word digits ≡ Line other = same in cc) }

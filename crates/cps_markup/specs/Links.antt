@@ -5,9 +5,10 @@ use Rattle.cps_text.specs.declared.name.Name.{Name}
 use Rattle.cps_text.specs.Name.{name_of}
 use Rattle.cps_expr.specs.Value.{same_name}
 use Rattle.cps_markup.specs.declared.place.Place.{Place}
-use Rattle.cps_markup.specs.declared.place.Place.TheVariants.{Line, Symbol, Section}
+use Rattle.cps_markup.specs.declared.place.Place.TheVariants.{Line, Symbol, Word, Section}
 use Rattle.cps_markup.specs.declared.targets.Entry.{Entry}
 use Rattle.cps_markup.specs.declared.targets.Targets.{Targets}
+use Rattle.cps_markup.specs.declared.targets.WordEntry.{WordEntry}
 use Rattle.cps_markup.specs.Markup.{Link}
 
 -- the row of a symbol
@@ -18,10 +19,15 @@ is_of name entry = same_name name entry.name
 abbrev pub is_defined : Name → ℕ → Entry → Bool
 is_defined name number entry = same_name name entry.name && entry.line == number
 
--- there is such a line, such a symbol
+-- the row of a word
+abbrev pub is_at : ℕ → WordEntry → Bool
+is_at digits word = digits == word.digits
+
+-- there is such a line, such a symbol, such a word
 abbrev pub HasPlace : Targets → Place → Type 0
 HasPlace targets (Line number) = (1 ≤ number) × (number ≤ targets.count)
 HasPlace targets (Symbol name) = IsTrue (list_any (is_of name) targets.entries.items)
+HasPlace targets (Word digits) = IsTrue (list_any (is_at digits) targets.words.items)
 HasPlace targets (Section section) = ⊤
 
 -- a symbol leads to no line but the one that defines it

@@ -63,8 +63,7 @@ pub fn push_opening(
 ) -> Result<(), AllocError>
     ensures { OnOk result (page.new.items ≡ page.old.items ++ opening tag (map attribute_of attributes.now)) }
 {
-    page.push(b'<')?;
-    page.extend_from_slice(tag.name())?;
+    page.extend_from_slice(tag.begin())?;
     push_attributes(page, attributes)?;
     page.push(b'>')?;
     Ok(())
@@ -83,8 +82,6 @@ fn push_attributes(page: &mut Vec<u8>, attributes: &[Attribute<'_>]) -> Result<(
 pub fn push_closing(page: &mut Vec<u8>, tag: Tag) -> Result<(), AllocError>
     ensures { OnOk result (page.new.items ≡ page.old.items ++ closing tag) }
 {
-    page.extend_from_slice(b"</")?;
-    page.extend_from_slice(tag.name())?;
-    page.push(b'>')?;
+    page.extend_from_slice(tag.end())?;
     Ok(())
 }

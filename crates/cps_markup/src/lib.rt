@@ -5,6 +5,7 @@
 //! - `escaping_laws.rt`: what holds of text in markup
 //! - `line_fields.rt`: the fields of a line, as they are painted
 //! - `link.rt`: links, each of which leads somewhere
+//! - `operand_style.rt`: how the operands of an instruction look
 //! - `painting.rt`: how rows are painted
 //! - `place.rt`: what a link leads to
 //! - `place_laws.rt`: what holds of the identifiers of places
@@ -13,7 +14,7 @@
 //! - `stretch.rt`: a row, part by part
 //! - `style.rt`: how a part of a row looks
 //! - `tag.rt`: the kinds of elements
-//! - `targets.rt`: the lines and symbols to which links can lead
+//! - `targets.rt`: the lines, symbols and words to which links can lead
 #![tactic(auto)]
 
 mod attribute;
@@ -21,6 +22,7 @@ mod escaping;
 mod escaping_laws;
 mod line_fields;
 mod link;
+mod operand_style;
 mod painting;
 mod place;
 mod place_laws;
@@ -42,4 +44,4 @@ pub use rows::{push_group, push_rows, row_length};
 pub use stretch::{ShownRow, push_row};
 pub use style::Style;
 pub use tag::Tag;
-pub use targets::{Entry, Targets};
+pub use targets::{Entry, Targets, WordEntry};

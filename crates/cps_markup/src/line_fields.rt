@@ -6,12 +6,13 @@ const LAST_COLUMN: usize = 72;
 /// The columns before the operands, where a line without a word there has a comment.
 const BEFORE_COMMENT: usize = 29;
 
-/// How many columns of a line stand before the ends of its fields, and before its operation.
+/// How many columns of a line stand before the ends of its fields, before its operation and before its operands.
 #[derive(Clone, Copy)]
 pub struct LineFields {
     pub location_end: usize,
     pub operation: usize,
     pub operation_end: usize,
+    pub operands: usize,
     /// The comment begins here.
     pub operands_end: usize,
 }
@@ -28,6 +29,7 @@ impl LineFields {
             location_end,
             operation,
             operation_end,
+            operands,
             operands_end: operands_end(line, operation, operands).min(LAST_COLUMN),
         }
     }

@@ -65,6 +65,22 @@ pub fn push_styled(
     Ok(())
 }
 
+/// Appends words of a style that lead to a place, or the words alone where no link may lead there.
+pub fn push_styled_link(
+    page: &mut Vec<u8>,
+    targets: &Targets,
+    words: &[u8],
+    style: Style,
+    place: Place,
+) -> Result<(), AllocError>
+    ensures { OnOk result (Adds (Leads targets.now) words.now [] page.old.items page.new.items) }
+{
+    push_opening(page, Tag::Part, &[Attribute::Styled(style)])?;
+    push_link(page, targets, words, place)?;
+    push_closing(page, Tag::Part)?;
+    Ok(())
+}
+
 /// Appends words that a title explains.
 pub fn push_titled(
     page: &mut Vec<u8>,

@@ -2,6 +2,7 @@
 ghost use Rattle.std.specs.Prelude.{◌≤◌, length};
 
 use crate::line_fields::behind;
+use crate::operand_style::{operand_style, register_place};
 use crate::place::{PageSection, Place};
 use crate::row_form::RowForm;
 use crate::stretch::{BEFORE_LINE, Paint, PaintedRow, Stretch};
@@ -25,19 +26,31 @@ const BEFORE_NUMBER: usize = 37;
 pub fn stretch_at<'a>(targets: &Targets, painted: &PaintedRow<'a>, before: usize) -> Stretch<'a> {
     match painted.section {
         PageSection::Listing => listing_stretch(targets, painted, before),
-        PageSection::Words => word_stretch(painted.text, before),
+        PageSection::Words => word_stretch(targets, painted.text, before),
         PageSection::Symbols => symbol_stretch(targets, painted.text, before),
         PageSection::Flags => flag_stretch(painted.text, before),
         PageSection::Memory | PageSection::Instructions => plain(painted.text.len()),
     }
 }
 
-/// The address of a word is grey.
-fn word_stretch<'a>(row: &[u8], before: usize) -> Stretch<'a> {
-    if before == 0 && begins_with_digit(row) {
-        return styled(length_until_blank(row), Style::Grey);
+/// The address of a word leads to the first line that has a row there.
+fn word_stretch<'a>(targets: &Targets, row: &[u8], before: usize) -> Stretch<'a> {
+    if before > 0 || !begins_with_digit(row) {
+        return plain(row.len());
     }
-    plain(row.len())
+    let width = length_until_blank(row);
+    match line_at(targets, row.split_at(width).0) {
+        Some(line) => Stretch {
+            width,
+            paint: Paint::StyledLink(Style::Grey, Place::Line(line)),
+        },
+        None => styled(width, Style::Grey),
+    }
+}
+
+/// The first line that has a row at the address of a word.
+fn line_at(targets: &Targets, address: &[u8]) -> Option<u32> {
+    targets.line_of_word(number_in(address)?)
 }
 
 /// A line's number leads to the line; the letters behind it are flags.
@@ -90,12 +103,27 @@ fn front_stretch<'a>(painted: &PaintedRow<'_>, rest: &[u8], before: usize) -> St
         return styled(length, Style::Flag);
     }
     if before < BEFORE_CODE {
-        return styled(length, Style::Grey);
+        return address_stretch(painted, rest.split_at(length).0);
     }
     if before < BEFORE_NUMBER {
         return code_stretch(painted, before);
     }
     number_stretch(rest.split_at(length).0)
+}
+
+/// An address leads to its word where that begins, and is grey where it comes again.
+fn address_stretch<'a>(painted: &PaintedRow<'_>, digits: &[u8]) -> Stretch<'a> {
+    if !painted.begins_word {
+        return styled(digits.len(), Style::Grey);
+    }
+    let paint = match number_in(digits) {
+        Some(number) => Paint::Linked(Place::Word(number)),
+        None => Paint::Plain,
+    };
+    Stretch {
+        width: digits.len(),
+        paint,
+    }
 }
 
 /// A part of an instruction's code: its fields, or an address. Codes of words and of fields have no such parts.
@@ -131,7 +159,7 @@ fn field_width(letters: &[u8], style: Option<Style>) -> usize {
 }
 
 /// How the digits look for which a letter stands; None: as they are.
-fn style_of(letter: u8) -> Option<Style> {
+pub fn style_of(letter: u8) -> Option<Style> {
     match letter {
         b'i' | b'd' => Some(Style::FieldI),
         b'j' => Some(Style::FieldJ),
@@ -169,19 +197,63 @@ fn word_in_line<'a>(
         return location_stretch(rest.split_at(length_until_blank(rest)).0);
     }
     if before < painted.fields.operation_end {
-        return operation_stretch(painted.form, length_until_blank(rest));
+        let passed = before.saturating_sub(painted.fields.operation);
+        return operation_stretch(painted.form, passed, length_until_blank(rest));
     }
-    name_stretch(targets, rest)
+    hued(name_stretch(targets, rest), painted, rest, before)
 }
 
-/// An operation, with what it does as its title.
-fn operation_stretch<'a>(form: Option<RowForm<'a>>, width: usize) -> Stretch<'a> {
-    match form {
-        Some(form) if !form.sentence.is_empty() => Stretch {
-            width,
-            paint: Paint::Titled(form.sentence),
+/// A part of the operands that looks as the digits of the code that it makes.
+fn hued<'a>(
+    stretch: Stretch<'a>,
+    painted: &PaintedRow<'a>,
+    rest: &[u8],
+    before: usize,
+) -> Stretch<'a> {
+    let word = rest.split_at(symbol_length(rest)).0;
+    match style_at(painted, word, before) {
+        Some(style) => Stretch {
+            width: stretch.width,
+            paint: match stretch.paint {
+                Paint::Linked(place) => Paint::StyledLink(style, place),
+                _ => Paint::Styled(style),
+            },
         },
-        _ => plain(width),
+        None => stretch,
+    }
+}
+
+/// How a word of the operands looks that begins behind so many characters of the line.
+fn style_at(painted: &PaintedRow<'_>, word: &[u8], before: usize) -> Option<Style> {
+    let form = painted.form?;
+    if word.is_empty() {
+        return None;
+    }
+    let operands = behind(behind(painted.text, BEFORE_LINE), painted.fields.operands);
+    let passed = before.saturating_sub(painted.fields.operands);
+    operand_style(form, operands.split_at(passed.min(operands.len())).0, word)
+}
+
+/// An operation, with what it does as its title, and behind that the digit of its register. So many of its characters are passed, so many are left.
+fn operation_stretch<'a>(form: Option<RowForm<'a>>, passed: usize, left: usize) -> Stretch<'a> {
+    let Some(form) = form else {
+        return plain(left);
+    };
+    match register_place(form.name) {
+        Some(place) if passed == place => styled(1, Style::FieldI),
+        Some(place) if passed < place => titled(form, place - passed),
+        _ => titled(form, left),
+    }
+}
+
+/// So many characters of an operation, with what it does as their title.
+fn titled<'a>(form: RowForm<'a>, width: usize) -> Stretch<'a> {
+    if form.sentence.is_empty() {
+        return plain(width);
+    }
+    Stretch {
+        width,
+        paint: Paint::Titled(form.sentence),
     }
 }
 

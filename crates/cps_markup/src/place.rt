@@ -35,11 +35,13 @@ impl PageSection {
     }
 }
 
-/// A place of a page: a line of the listing, by its number from 1, a row of the cross-reference, or a section.
+/// A place of a page: a line of the listing, by its number from 1, a row of the cross-reference, a word of memory, or a section.
 #[derive(Clone, Copy, PartialEq, Eq)]
 pub enum Place {
     Line(u32),
     Symbol(Name),
+    /// By the octal digits of its address, as if they were decimal: 105 is the word at 105B.
+    Word(u32),
     Section(PageSection),
 }
 
@@ -50,6 +52,15 @@ pub fn push_place(page: &mut Vec<u8>, place: Place) -> Result<(), AllocError>
     match place {
         Place::Line(number) => push_text(page, Buffer::new().format(number).as_bytes()),
         Place::Symbol(name) => push_text(page, name.text()),
+        Place::Word(digits) => push_word(page, digits),
         Place::Section(section) => push_text(page, section.name()),
     }
+}
+
+/// Appends the identifier of a word: its address behind a letter.
+fn push_word(page: &mut Vec<u8>, digits: u32) -> Result<(), AllocError>
+    ensures { OnOk result (page.new.items ≡ page.old.items ++ escaped (place_text (Place.Word digits))) }
+{
+    push_text(page, b"w")?;
+    push_text(page, Buffer::new().format(digits).as_bytes())
 }

@@ -42,6 +42,7 @@ pub fn push_rows(
             section,
             text: row,
             form: None,
+            begins_word: false,
             note: b"",
             is_summary: false,
         };

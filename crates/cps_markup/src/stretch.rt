@@ -7,7 +7,7 @@ ghost use Rattle.cps_markup.specs.Code.Adding.{Adds, row_attributes, row_tag};
 use crate::attribute::{Attribute, push_closing, push_opening};
 use crate::escaping::push_text;
 use crate::line_fields::LineFields;
-use crate::link::{push_link, push_note, push_plain, push_styled, push_titled};
+use crate::link::{push_link, push_note, push_plain, push_styled, push_styled_link, push_titled};
 use crate::painting::stretch_at;
 use crate::place::{PageSection, Place};
 use crate::row_form::RowForm;
@@ -25,6 +25,7 @@ pub enum Paint<'a> {
     Plain,
     Styled(Style),
     Linked(Place),
+    StyledLink(Style, Place),
     /// Words that this explains.
     Titled(&'a [u8]),
 }
@@ -44,6 +45,8 @@ pub struct ShownRow<'a> {
     pub text: &'a [u8],
     /// The form of its instruction, if it has one.
     pub form: Option<RowForm<'a>>,
+    /// Whether it is the first row at its address, which leads to the word then.
+    pub begins_word: bool,
     /// What is told behind it, perhaps nothing.
     pub note: &'a [u8],
     /// Whether it stands for rows that can be folded.
@@ -57,6 +60,7 @@ pub struct PaintedRow<'a> {
     /// Without its line feed.
     pub text: &'a [u8],
     pub form: Option<RowForm<'a>>,
+    pub begins_word: bool,
     /// The fields of its line, in the listing.
     pub fields: LineFields,
 }
@@ -140,6 +144,7 @@ fn push_columns(
         section: shown.section,
         text,
         form: shown.form,
+        begins_word: shown.begins_word,
         fields: LineFields::of(rest),
     };
     push_front(page, targets, &painted, front)?;
@@ -228,6 +233,7 @@ fn push_stretch(
         Paint::Plain => push_plain(page, targets, words),
         Paint::Styled(style) => push_styled(page, targets, words, style),
         Paint::Linked(place) => push_link(page, targets, words, place),
+        Paint::StyledLink(style, place) => push_styled_link(page, targets, words, style, place),
         Paint::Titled(title) => push_titled(page, targets, words, title),
     }
 }

@@ -1,6 +1,6 @@
 //! The kinds of elements.
-ghost use Rattle.std.specs.Prelude.{◌≡◌};
-ghost use Rattle.cps_markup.specs.Markup.{tag_name};
+ghost use Rattle.std.specs.Prelude.{◌≡◌, ◌++◌, codes};
+ghost use Rattle.cps_markup.specs.Markup.{closing, tag_name};
 
 /// A kind of element.
 #[derive(Clone, Copy, PartialEq, Eq)]
@@ -20,20 +20,37 @@ pub enum Tag {
 }
 
 impl Tag {
-    /// The name, as HTML has it.
-    pub fn name(self) -> &'static [u8]
-        ensures { result.now ≡ tag_name self }
+    /// The begin, up to where its attributes come.
+    pub fn begin(self) -> &'static [u8]
+        ensures { result.now ≡ codes "<" ++ tag_name self }
     {
         match self {
-            Tag::Section => b"section",
-            Tag::Heading => b"h2",
-            Tag::Row => b"div",
-            Tag::Part => b"i",
-            Tag::Link => b"a",
-            Tag::Note => b"small",
-            Tag::Front => b"span",
-            Tag::Fold => b"details",
-            Tag::Summary => b"summary",
+            Tag::Section => b"<section",
+            Tag::Heading => b"<h2",
+            Tag::Row => b"<div",
+            Tag::Part => b"<i",
+            Tag::Link => b"<a",
+            Tag::Note => b"<small",
+            Tag::Front => b"<span",
+            Tag::Fold => b"<details",
+            Tag::Summary => b"<summary",
+        }
+    }
+
+    /// The end.
+    pub fn end(self) -> &'static [u8]
+        ensures { result.now ≡ closing self }
+    {
+        match self {
+            Tag::Section => b"</section>",
+            Tag::Heading => b"</h2>",
+            Tag::Row => b"</div>",
+            Tag::Part => b"</i>",
+            Tag::Link => b"</a>",
+            Tag::Note => b"</small>",
+            Tag::Front => b"</span>",
+            Tag::Fold => b"</details>",
+            Tag::Summary => b"</summary>",
         }
     }
 }

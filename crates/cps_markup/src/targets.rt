@@ -1,8 +1,8 @@
-//! The lines and symbols of a page, to which links can lead.
+//! The lines, symbols and words of a page, to which links can lead.
 ghost use Rattle.std.specs.Prelude.{◌≡◌, ◌≤◌, ℕ, IsTrue, IfSome, Some, length};
 ghost use Rattle.std.specs.List.{list_any};
 ghost use Rattle.cps_text.specs.Name.{name_of};
-ghost use Rattle.cps_markup.specs.Links.{HasPlace, IsHome, Leads, is_defined, is_of};
+ghost use Rattle.cps_markup.specs.Links.{HasPlace, IsHome, Leads, is_at, is_defined, is_of};
 
 use crate::place::Place;
 use cps_text::Name;
@@ -14,11 +14,19 @@ pub struct Entry {
     pub line: u32,
 }
 
-/// The lines and symbols that a page has places for: how many lines there are, and the symbols in the order of their names.
+/// A word of memory, by the octal digits of its address as if they were decimal, with the number of the first line that has a row there, 0 where none has.
+#[derive(Clone, Copy, PartialEq, Eq)]
+pub struct WordEntry {
+    pub digits: u32,
+    pub line: u32,
+}
+
+/// What a page has places for: how many lines there are, the symbols in the order of their names, and the words in that of their addresses.
 #[derive(Drop)]
 pub struct Targets {
     pub count: u32,
     pub entries: Vec<Entry>,
+    pub words: Vec<WordEntry>,
 }
 
 impl Targets {
@@ -29,6 +37,7 @@ impl Targets {
         match place {
             Place::Line(number) => self.allows_line(words, number),
             Place::Symbol(name) => self.has_symbol(name),
+            Place::Word(digits) => self.has_word(digits),
             Place::Section(_) => true,
         }
     }
@@ -89,6 +98,44 @@ impl Targets {
         while low < high {
             let middle = low + (high - low) / 2;
             if self.entries[middle].name < name {
+                low = middle + 1;
+            } else {
+                high = middle;
+            }
+        }
+        low
+    }
+
+    /// Whether there is a word at an address.
+    fn has_word(&self, digits: u32) -> bool
+        ensures { IsTrue result → IsTrue (list_any (is_at digits) self.now.words.items) }
+    {
+        let place = self.words_before(digits);
+        place < self.words.len() && digits == self.words[place].digits
+    }
+
+    /// The number of the first line that has a row at the address of a word, None where there is no such word.
+    pub fn line_of_word(&self, digits: u32) -> Option<u32> {
+        let word = self.words.get(self.words_before(digits))?;
+        if word.digits == digits {
+            Some(word.line)
+        } else {
+            None
+        }
+    }
+
+    /// Whether there is a word from an address on and before another one.
+    pub fn has_words(&self, from: u32, end: u32) -> bool {
+        self.words_before(from) < self.words_before(end)
+    }
+
+    /// How many words stand before an address.
+    fn words_before(&self, digits: u32) -> usize {
+        let mut low = 0;
+        let mut high = self.words.len();
+        while low < high {
+            let middle = low + (high - low) / 2;
+            if self.words[middle].digits < digits {
                 low = middle + 1;
             } else {
                 high = middle;

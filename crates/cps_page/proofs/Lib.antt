@@ -1,3 +1,4 @@
 pub mod EntryLemmas
+pub mod WordLemmas
 pub mod PlaceLemmas
 pub mod PageLemmas

@@ -10,15 +10,16 @@ use Rattle.cps_list.specs.Assembly.{Assembly}
 use Rattle.cps_list.specs.Binary.{binary_text}
 use Rattle.cps_list.specs.Flagged.{flags_text}
 use Rattle.cps_list.specs.ListingText.{line_rows, listing_from, listing_text}
-use Rattle.cps_list.specs.Symbols.{symbols_text}
+use Rattle.cps_list.specs.Symbols.{mentions_from, symbols_text}
 use Rattle.cps_list.proofs.ViewLemmas.{drop-next}
 use Rattle.cps_markup.specs.declared.place.Place.{Place}
-use Rattle.cps_markup.specs.declared.place.Place.TheVariants.{Line, Symbol, Section}
+use Rattle.cps_markup.specs.declared.place.Place.TheVariants.{Line, Symbol, Word, Section}
 use Rattle.cps_markup.specs.declared.place.PageSection.{PageSection}
 use Rattle.cps_markup.specs.declared.place.PageSection.TheVariants as page
 use Rattle.cps_markup.specs.declared.tag.Tag.TheVariants as tag
 use Rattle.cps_markup.specs.declared.targets.Entry.{Entry}
 use Rattle.cps_markup.specs.declared.targets.Targets.{Targets}
+use Rattle.cps_markup.specs.declared.targets.WordEntry.{WordEntry}
 use Rattle.cps_markup.specs.Links.{Leads}
 use Rattle.cps_markup.specs.Markup.{identifier, Link, escaped, written, places, links, opening, closing}
 use Rattle.cps_markup.specs.PlaceLaws.{IsWritten}
@@ -26,7 +27,7 @@ use Rattle.cps_markup.specs.Places.{same_place}
 use Rattle.cps_markup.specs.Code.Adding.{Adds}
 use Rattle.cps_markup.proofs.AddsLemmas.{adds-joined, adds-nothing, all-none}
 use Rattle.cps_page.specs.Page.{body, title_text, IsPage}
-use Rattle.cps_page.specs.Code.Making.{lines_from, symbols_among, all_places, AddsSection, AddsSections, AreTargets}
+use Rattle.cps_page.specs.Code.Making.{lines_from, symbols_among, words_among, all_places, AddsSection, AddsSections, AreTargets}
 use Rattle.cps_page.proofs.EntryLemmas.{found-defined}
 use Rattle.cps_page.proofs.PlaceLemmas.{all-once, all-there, all-written}
 
@@ -76,6 +77,22 @@ module _ (P : Link → Type 0) where
       (sym (at_drop_more symbols_among entries i d lt))
       (adds-joined P row behind (Symbol (get_or entries i d).name ∷ []) (symbols_among (drop (i + 1) entries)) old new last a later)
 
+  -- the row of the next word, and those of the words after it
+  pub adds-word : (words : List WordEntry) (i n : ℕ) (d : WordEntry) (rest row behind old new last : List ℕ) → i < length words → row ≡ take n rest → behind ≡ drop n rest
+      → Adds P row (Word (get_or words i d).digits ∷ []) old new → Adds P behind (words_among (drop (i + 1) words)) new last
+      → Adds P rest (words_among (drop i words)) old last
+  adds-word words i n d rest row behind old new last lt front back a later =
+      adds-same _ rest _ _ old last
+      ((λ j. front j ++ back j) ∙ take-append-drop n rest)
+      (sym (at_drop_more words_among words i d lt))
+      (adds-joined P row behind (Word (get_or words i d).digits ∷ []) (words_among (drop (i + 1) words)) old new last a later)
+
+  -- rows without a place, and those behind them
+  pub adds-front : (n : ℕ) (rest front behind : List ℕ) (p : List Place) (old middle last : List ℕ) → front ≡ take n rest → behind ≡ drop n rest → Adds P front [] old middle
+      → Adds P behind p middle last → Adds P rest p old last
+  adds-front n rest front behind p old middle last f b a later =
+      subst (λ l. Adds P l p old last) ((λ i. f i ++ b i) ∙ take-append-drop n rest) (adds-joined P front behind [] p old middle last a later)
+
 -- ---- a section
 
 regroup : (a o i c : List ℕ) → a ++ o ++ i ++ c ≡ a ++ (o ++ i ++ c ++ [])
@@ -102,7 +119,7 @@ module _ (targets : Targets) where
   pub adds-sections : (assembly : Assembly) (old begun listed worded symboled flagged new : List ℕ)
       → AddsSection targets page.Memory [] [] old begun
       → AddsSection targets page.Listing (listing_text assembly) (lines_from 1 assembly.lines) begun listed
-      → AddsSection targets page.Words (binary_text assembly) [] listed worded
+      → AddsSection targets page.Words (binary_text assembly) (words_among targets.words.items) listed worded
       → AddsSection targets page.Symbols (symbols_text assembly) (symbols_among targets.entries.items) worded symboled
       → AddsSection targets page.Flags (flags_text assembly) [] symboled flagged
       → AddsSection targets page.Instructions [] [] flagged new
@@ -136,7 +153,7 @@ pub page-of : (assembly : Assembly) (targets : Targets) (front middle back begun
     → begun ≡ front ++ escaped (title_text assembly.finals.program) ++ middle → AddsSections targets assembly begun made
     → new ≡ made ++ back → IsPage front middle back assembly new
 page-of assembly targets front middle back begun made new are fronted a backed =
-    let there : (place : Place) → list_any (same_place place) (all_places assembly.lines targets.entries.items) ≡ list_any (same_place place) (places (body a.sections)) =
+    let there : (place : Place) → list_any (same_place place) (all_places assembly.lines targets) ≡ list_any (same_place place) (places (body a.sections)) =
     λ place. sym (ap (list_any (same_place place)) a.same_places) in
     record {
       sections = a.sections;
@@ -147,8 +164,9 @@ page-of assembly targets front middle back begun made new are fronted a backed =
       words = a.words;
       symbols = a.symbols;
       flags = a.flags;
-      once = λ place. subst (λ (ps : List Place). count_by (same_place place) ps ≤ 1) (sym a.same_places) (all-once assembly.lines targets.entries.items are.once place);
-      differ = subst (All IsWritten) (sym a.same_places) (all-written assembly.lines targets.entries.items are.few are.written);
+      once = λ place. subst (λ (ps : List Place). count_by (same_place place) ps ≤ 1) (sym a.same_places) (all-once assembly.lines targets are.symbols.once are.words place);
+      differ = subst (All IsWritten) (sym a.same_places) (all-written assembly.lines targets are.few are.symbols.written are.words);
       alive = λ k d lt. let place = (get_or (links (body a.sections)) k d).place in sym (there place) ∙ all-there assembly.lines targets are.lines place (a.good k d lt).there;
-      home = λ k d lt. λ name number words leads. found-defined assembly name number targets.entries.items are.defined ((a.good k d lt).home number leads name words);
+      home = λ k d lt. λ name number words leads.
+          found-defined (mentions_from 1 assembly.outcomes) name number targets.entries.items are.symbols.defined ((a.good k d lt).home number leads name words);
     }

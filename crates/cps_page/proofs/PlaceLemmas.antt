@@ -9,16 +9,17 @@ use Rattle.std.proofs.lemmas.List.Sums.{sum_by-append}
 use Rattle.cps_text.specs.declared.name.Name.{Name}
 use Rattle.cps_expr.specs.Value.{same_name}
 use Rattle.cps_markup.specs.declared.place.Place.{Place}
-use Rattle.cps_markup.specs.declared.place.Place.TheVariants.{Line, Symbol, Section}
+use Rattle.cps_markup.specs.declared.place.Place.TheVariants.{Line, Symbol, Word, Section}
 use Rattle.cps_markup.specs.declared.place.PageSection.{PageSection}
 use Rattle.cps_markup.specs.declared.place.PageSection.TheVariants as page
 use Rattle.cps_markup.specs.declared.targets.Entry.{Entry}
 use Rattle.cps_markup.specs.declared.targets.Targets.{Targets}
-use Rattle.cps_markup.specs.Links.{is_of, HasPlace}
+use Rattle.cps_markup.specs.declared.targets.WordEntry.{WordEntry}
+use Rattle.cps_markup.specs.Links.{is_at, is_of, HasPlace}
 use Rattle.cps_markup.specs.PlaceLaws.{IsWritten}
 use Rattle.cps_markup.specs.Places.{same_place}
 use Rattle.cps_markup.proofs.AddsLemmas.{all-none, all-one}
-use Rattle.cps_page.specs.Code.Making.{lines_from, symbols_among, all_places}
+use Rattle.cps_page.specs.Code.Making.{AreWords, lines_from, symbols_among, words_among, all_places}
 
 -- ---- counts
 
@@ -110,75 +111,141 @@ no-symbols-section section (entry ∷ entries) =
     let later = no-symbols-section section entries in
     omega (arith, count, later)
 
+-- ---- words
+
+words-count : (digits : ℕ) (words : List WordEntry) → count_by (same_place (Word digits)) (words_among words) ≡ count_by (is_at digits) words
+words-count digits [] = refl
+words-count digits (word ∷ words) =
+    count-cons (same_place (Word digits)) (Word word.digits) (words_among words)
+    ∙ ap (λ n. cond (digits == word.digits) 1 0 + n) (words-count digits words)
+    ∙ sym (count-cons (is_at digits) word words)
+
+words-there : (digits : ℕ) (words : List WordEntry) → list_any (same_place (Word digits)) (words_among words) ≡ list_any (is_at digits) words
+words-there digits [] = refl
+words-there digits (word ∷ words) = ap (λ b. (digits == word.digits) || b) (words-there digits words)
+
+no-words-line : (k : ℕ) (words : List WordEntry) → count_by (same_place (Line k)) (words_among words) ≡ 0
+no-words-line k [] = refl
+no-words-line k (word ∷ words) =
+    let count = count-cons (same_place (Line k)) (Word word.digits) (words_among words) in
+    let later = no-words-line k words in
+    omega (arith, count, later)
+
+no-words-symbol : (name : Name) (words : List WordEntry) → count_by (same_place (Symbol name)) (words_among words) ≡ 0
+no-words-symbol name [] = refl
+no-words-symbol name (word ∷ words) =
+    let count = count-cons (same_place (Symbol name)) (Word word.digits) (words_among words) in
+    let later = no-words-symbol name words in
+    omega (arith, count, later)
+
+no-words-section : (section : PageSection) (words : List WordEntry) → count_by (same_place (Section section)) (words_among words) ≡ 0
+no-words-section section [] = refl
+no-words-section section (word ∷ words) =
+    let count = count-cons (same_place (Section section)) (Word word.digits) (words_among words) in
+    let later = no-words-section section words in
+    omega (arith, count, later)
+
+no-lines-word : (digits n : ℕ) (lines : List (List ℕ)) → count_by (same_place (Word digits)) (lines_from n lines) ≡ 0
+no-lines-word digits n [] = refl
+no-lines-word digits n (line ∷ lines) =
+    let count = count-cons (same_place (Word digits)) (Line n) (lines_from (n + 1) lines) in
+    let later = no-lines-word digits (n + 1) lines in
+    omega (arith, count, later)
+
+no-symbols-word : (digits : ℕ) (entries : List Entry) → count_by (same_place (Word digits)) (symbols_among entries) ≡ 0
+no-symbols-word digits [] = refl
+no-symbols-word digits (entry ∷ entries) =
+    let count = count-cons (same_place (Word digits)) (Symbol entry.name) (symbols_among entries) in
+    let later = no-symbols-word digits entries in
+    omega (arith, count, later)
+
 -- ---- all
 
 abbrev at : Place → PageSection → ℕ
 at place section = cond (same_place place (Section section)) 1 0
 
-abbrev parts : Place → List (List ℕ) → List Entry → ℕ
-parts place lines entries =
+abbrev parts : Place → List (List ℕ) → Targets → ℕ
+parts place lines targets =
     at place page.Memory + (at place page.Listing + (count_by (same_place place) (lines_from 1 lines)
-    + (at place page.Words + (at place page.Symbols + (count_by (same_place place) (symbols_among entries) + (at place page.Flags + at place page.Instructions))))))
+    + (at place page.Words + (count_by (same_place place) (words_among targets.words.items)
+    + (at place page.Symbols + (count_by (same_place place) (symbols_among targets.entries.items) + (at place page.Flags + at place page.Instructions)))))))
 
-all-count : (place : Place) (lines : List (List ℕ)) (entries : List Entry) → count_by (same_place place) (all_places lines entries) ≡ parts place lines entries
-all-count place lines entries =
+all-count : (place : Place) (lines : List (List ℕ)) (targets : Targets) → count_by (same_place place) (all_places lines targets) ≡ parts place lines targets
+all-count place lines targets =
     let p = same_place place in
     let instructions = Section page.Instructions ∷ [] in
     let flags = Section page.Flags ∷ instructions in
-    let symbols = Section page.Symbols ∷ (symbols_among entries ++ flags) in
-    let words = Section page.Words ∷ symbols in
+    let symbols = Section page.Symbols ∷ (symbols_among targets.entries.items ++ flags) in
+    let words = Section page.Words ∷ (words_among targets.words.items ++ symbols) in
     let listing = Section page.Listing ∷ (lines_from 1 lines ++ words) in
     count-cons p (Section page.Memory) listing
     ∙ ap (λ n. at place page.Memory + n) (count-cons p (Section page.Listing) (lines_from 1 lines ++ words)
     ∙ ap (λ n. at place page.Listing + n) (count-append p (lines_from 1 lines) words
-    ∙ ap (λ n. count_by p (lines_from 1 lines) + n) (count-cons p (Section page.Words) symbols
-    ∙ ap (λ n. at place page.Words + n) (count-cons p (Section page.Symbols) (symbols_among entries ++ flags)
-    ∙ ap (λ n. at place page.Symbols + n) (count-append p (symbols_among entries) flags
-    ∙ ap (λ n. count_by p (symbols_among entries) + n) (count-cons p (Section page.Flags) instructions
-    ∙ ap (λ n. at place page.Flags + n) (count-one p (Section page.Instructions))))))))
+    ∙ ap (λ n. count_by p (lines_from 1 lines) + n) (count-cons p (Section page.Words) (words_among targets.words.items ++ symbols)
+    ∙ ap (λ n. at place page.Words + n) (count-append p (words_among targets.words.items) symbols
+    ∙ ap (λ n. count_by p (words_among targets.words.items) + n) (count-cons p (Section page.Symbols) (symbols_among targets.entries.items ++ flags)
+    ∙ ap (λ n. at place page.Symbols + n) (count-append p (symbols_among targets.entries.items) flags
+    ∙ ap (λ n. count_by p (symbols_among targets.entries.items) + n) (count-cons p (Section page.Flags) instructions
+    ∙ ap (λ n. at place page.Flags + n) (count-one p (Section page.Instructions)))))))))
 
-pub all-once : (lines : List (List ℕ)) (entries : List Entry) → ((name : Name) → count_by (is_of name) entries ≤ 1) → (place : Place) → count_by (same_place place) (all_places lines entries) ≤ 1
-all-once lines entries once (Line k) =
-    let count = all-count (Line k) lines entries in
+pub all-once : (lines : List (List ℕ)) (targets : Targets) → ((name : Name) → count_by (is_of name) targets.entries.items ≤ 1) → AreWords targets.words.items
+    → (place : Place) → count_by (same_place place) (all_places lines targets) ≤ 1
+all-once lines targets once words (Line k) =
+    let count = all-count (Line k) lines targets in
     let here = lines-once k 1 lines in
-    let none = no-symbols-line k entries in
-    omega (arith, count, here, none)
-all-once lines entries once (Symbol name) =
-    let count = all-count (Symbol name) lines entries in
+    let none = no-symbols-line k targets.entries.items in
+    let no_word = no-words-line k targets.words.items in
+    omega (arith, count, here, none, no_word)
+all-once lines targets once words (Symbol name) =
+    let count = all-count (Symbol name) lines targets in
     let none = no-lines-symbol name 1 lines in
-    let same = symbols-count name entries in
+    let same = symbols-count name targets.entries.items in
     let here = once name in
-    omega (arith, count, none, same, here)
-all-once lines entries once (Section page.Memory) =
-    let count = all-count (Section page.Memory) lines entries in
+    let no_word = no-words-symbol name targets.words.items in
+    omega (arith, count, none, same, here, no_word)
+all-once lines targets once words (Word digits) =
+    let count = all-count (Word digits) lines targets in
+    let none = no-lines-word digits 1 lines in
+    let same = words-count digits targets.words.items in
+    let here = words.once digits in
+    let no_symbol = no-symbols-word digits targets.entries.items in
+    omega (arith, count, none, same, here, no_symbol)
+all-once lines targets once words (Section page.Memory) =
+    let count = all-count (Section page.Memory) lines targets in
     let none = no-lines-section page.Memory 1 lines in
-    let no_symbol = no-symbols-section page.Memory entries in
-    omega (arith, count, none, no_symbol)
-all-once lines entries once (Section page.Listing) =
-    let count = all-count (Section page.Listing) lines entries in
+    let no_symbol = no-symbols-section page.Memory targets.entries.items in
+    let no_word = no-words-section page.Memory targets.words.items in
+    omega (arith, count, none, no_symbol, no_word)
+all-once lines targets once words (Section page.Listing) =
+    let count = all-count (Section page.Listing) lines targets in
     let none = no-lines-section page.Listing 1 lines in
-    let no_symbol = no-symbols-section page.Listing entries in
-    omega (arith, count, none, no_symbol)
-all-once lines entries once (Section page.Words) =
-    let count = all-count (Section page.Words) lines entries in
+    let no_symbol = no-symbols-section page.Listing targets.entries.items in
+    let no_word = no-words-section page.Listing targets.words.items in
+    omega (arith, count, none, no_symbol, no_word)
+all-once lines targets once words (Section page.Words) =
+    let count = all-count (Section page.Words) lines targets in
     let none = no-lines-section page.Words 1 lines in
-    let no_symbol = no-symbols-section page.Words entries in
-    omega (arith, count, none, no_symbol)
-all-once lines entries once (Section page.Symbols) =
-    let count = all-count (Section page.Symbols) lines entries in
+    let no_symbol = no-symbols-section page.Words targets.entries.items in
+    let no_word = no-words-section page.Words targets.words.items in
+    omega (arith, count, none, no_symbol, no_word)
+all-once lines targets once words (Section page.Symbols) =
+    let count = all-count (Section page.Symbols) lines targets in
     let none = no-lines-section page.Symbols 1 lines in
-    let no_symbol = no-symbols-section page.Symbols entries in
-    omega (arith, count, none, no_symbol)
-all-once lines entries once (Section page.Flags) =
-    let count = all-count (Section page.Flags) lines entries in
+    let no_symbol = no-symbols-section page.Symbols targets.entries.items in
+    let no_word = no-words-section page.Symbols targets.words.items in
+    omega (arith, count, none, no_symbol, no_word)
+all-once lines targets once words (Section page.Flags) =
+    let count = all-count (Section page.Flags) lines targets in
     let none = no-lines-section page.Flags 1 lines in
-    let no_symbol = no-symbols-section page.Flags entries in
-    omega (arith, count, none, no_symbol)
-all-once lines entries once (Section page.Instructions) =
-    let count = all-count (Section page.Instructions) lines entries in
+    let no_symbol = no-symbols-section page.Flags targets.entries.items in
+    let no_word = no-words-section page.Flags targets.words.items in
+    omega (arith, count, none, no_symbol, no_word)
+all-once lines targets once words (Section page.Instructions) =
+    let count = all-count (Section page.Instructions) lines targets in
     let none = no-lines-section page.Instructions 1 lines in
-    let no_symbol = no-symbols-section page.Instructions entries in
-    omega (arith, count, none, no_symbol)
+    let no_symbol = no-symbols-section page.Instructions targets.entries.items in
+    let no_word = no-words-section page.Instructions targets.words.items in
+    omega (arith, count, none, no_symbol, no_word)
 
 -- ---- what links may lead to is there
 
@@ -197,19 +264,25 @@ any-right : {T : Type 0} (p : T → Bool) (xs ys : List T) → list_any p ys ≡
 any-right p xs ys h = list_any-append p xs ys ∙ or-right _ _ h
 
 pub all-there : (lines : List (List ℕ)) (targets : Targets) → targets.count ≡ length lines → (place : Place) → HasPlace targets place
-    → list_any (same_place place) (all_places lines targets.entries.items) ≡ true
+    → list_any (same_place place) (all_places lines targets) ≡ true
 all-there lines targets same (Line k) has =
     any-left (same_place (Line k)) (lines_from 1 lines) _ (lines-there k 1 lines has.0 (let below = has.1 in omega (arith, below, same)))
 all-there lines targets same (Symbol name) has =
-    any-right (same_place (Symbol name)) (lines_from 1 lines) _ (any-left (same_place (Symbol name)) (symbols_among targets.entries.items) _ (symbols-there name targets.entries.items ∙ has))
+    any-right (same_place (Symbol name)) (lines_from 1 lines) _ (any-right (same_place (Symbol name)) (words_among targets.words.items) _
+    (any-left (same_place (Symbol name)) (symbols_among targets.entries.items) _ (symbols-there name targets.entries.items ∙ has)))
+all-there lines targets same (Word digits) has =
+    any-right (same_place (Word digits)) (lines_from 1 lines) _ (any-left (same_place (Word digits)) (words_among targets.words.items) _ (words-there digits targets.words.items ∙ has))
 all-there lines targets same (Section page.Memory) has = refl
 all-there lines targets same (Section page.Listing) has = refl
 all-there lines targets same (Section page.Words) has = any-right (same_place (Section page.Words)) (lines_from 1 lines) _ refl
-all-there lines targets same (Section page.Symbols) has = any-right (same_place (Section page.Symbols)) (lines_from 1 lines) _ refl
+all-there lines targets same (Section page.Symbols) has =
+    any-right (same_place (Section page.Symbols)) (lines_from 1 lines) _ (any-right (same_place (Section page.Symbols)) (words_among targets.words.items) _ refl)
 all-there lines targets same (Section page.Flags) has =
-    any-right (same_place (Section page.Flags)) (lines_from 1 lines) _ (any-right (same_place (Section page.Flags)) (symbols_among targets.entries.items) _ refl)
+    any-right (same_place (Section page.Flags)) (lines_from 1 lines) _ (any-right (same_place (Section page.Flags)) (words_among targets.words.items) _
+    (any-right (same_place (Section page.Flags)) (symbols_among targets.entries.items) _ refl))
 all-there lines targets same (Section page.Instructions) has =
-    any-right (same_place (Section page.Instructions)) (lines_from 1 lines) _ (any-right (same_place (Section page.Instructions)) (symbols_among targets.entries.items) _ refl)
+    any-right (same_place (Section page.Instructions)) (lines_from 1 lines) _ (any-right (same_place (Section page.Instructions)) (words_among targets.words.items) _
+    (any-right (same_place (Section page.Instructions)) (symbols_among targets.entries.items) _ refl))
 
 -- ---- places are written
 
@@ -227,18 +300,25 @@ symbols-written (entry ∷ entries) all =
 section-written : (section : PageSection) → All IsWritten (Section section ∷ [])
 section-written section = all-one IsWritten (Section section) tt
 
-pub all-written : (lines : List (List ℕ)) (entries : List Entry) → length lines < 2 ^ 32 → All (λ (entry : Entry). IsWritten (Symbol entry.name)) entries
-    → All IsWritten (all_places lines entries)
-all-written lines entries few written =
+words-written : (words : List WordEntry) → All (λ (word : WordEntry). IsWritten (Word word.digits)) words → All IsWritten (words_among words)
+words-written [] all = all-none IsWritten
+words-written (word ∷ words) all =
+    All-append IsWritten (Word word.digits ∷ []) (words_among words) (all-one IsWritten (Word word.digits) (all 0 word (omega arith)))
+    (words-written words (λ k d lt. all (suc k) d (omega arith)))
+
+pub all-written : (lines : List (List ℕ)) (targets : Targets) → length lines < 2 ^ 32 → All (λ (entry : Entry). IsWritten (Symbol entry.name)) targets.entries.items
+    → AreWords targets.words.items → All IsWritten (all_places lines targets)
+all-written lines targets few written known =
     let instructions = Section page.Instructions ∷ [] in
     let flags = Section page.Flags ∷ instructions in
-    let symbols = Section page.Symbols ∷ (symbols_among entries ++ flags) in
-    let words = Section page.Words ∷ symbols in
+    let symbols = Section page.Symbols ∷ (symbols_among targets.entries.items ++ flags) in
+    let words = Section page.Words ∷ (words_among targets.words.items ++ symbols) in
     let listing = Section page.Listing ∷ (lines_from 1 lines ++ words) in
     All-append IsWritten (Section page.Memory ∷ []) listing (section-written page.Memory)
     (All-append IsWritten (Section page.Listing ∷ []) (lines_from 1 lines ++ words) (section-written page.Listing)
     (All-append IsWritten (lines_from 1 lines) words (lines-written 1 lines (omega arith))
-    (All-append IsWritten (Section page.Words ∷ []) symbols (section-written page.Words)
-    (All-append IsWritten (Section page.Symbols ∷ []) (symbols_among entries ++ flags) (section-written page.Symbols)
-    (All-append IsWritten (symbols_among entries) flags (symbols-written entries written)
-    (All-append IsWritten (Section page.Flags ∷ []) instructions (section-written page.Flags) (section-written page.Instructions)))))))
+    (All-append IsWritten (Section page.Words ∷ []) (words_among targets.words.items ++ symbols) (section-written page.Words)
+    (All-append IsWritten (words_among targets.words.items) symbols (words-written targets.words.items known.written)
+    (All-append IsWritten (Section page.Symbols ∷ []) (symbols_among targets.entries.items ++ flags) (section-written page.Symbols)
+    (All-append IsWritten (symbols_among targets.entries.items) flags (symbols-written targets.entries.items written)
+    (All-append IsWritten (Section page.Flags ∷ []) instructions (section-written page.Flags) (section-written page.Instructions))))))))

@@ -1,16 +1,14 @@
 -- An assembled source as a page: its four texts, marked up. Our own.
-use Rattle.std.specs.Prelude.{◌≡◌, ℕ, ◌-◌, ◌≤◌, Bool, false, IsTrue, List, [], ◌∷◌, ◌++◌, All, codes, count_by, slice_get, Option, None, Some}
+use Rattle.std.specs.Prelude.{◌≡◌, ℕ, ◌≤◌, IsTrue, List, [], ◌∷◌, ◌++◌, All, codes, count_by, Option, None, Some}
 use Rattle.std.specs.List.{list_any}
-use Rattle.std.specs.Option.{option_map_or}
 use Rattle.cps_text.specs.declared.name.Name.{Name}
 use Rattle.cps_text.specs.Name.{name_of, name_text}
-use Rattle.cps_expr.specs.Value.{same_name}
-use Rattle.cps_final.specs.Outcome.{Outcome}
 use Rattle.cps_list.specs.Assembly.{Assembly}
 use Rattle.cps_list.specs.Binary.{binary_text}
 use Rattle.cps_list.specs.Flagged.{flags_text}
 use Rattle.cps_list.specs.ListingText.{listing_text}
-use Rattle.cps_list.specs.Symbols.{symbols_text}
+use Rattle.cps_list.specs.declared.mention.Mention.{Mention}
+use Rattle.cps_list.specs.Symbols.{defining_line, mentions_from, mentions_of, symbols_text}
 use Rattle.cps_page.specs.declared.frame.TheConstants.{FRONT, MIDDLE, BACK}
 use Rattle.cps_markup.specs.declared.place.Place.{Place}
 use Rattle.cps_markup.specs.declared.place.Place.TheVariants.{Line, Section}
@@ -45,14 +43,10 @@ body sections =
 
 -- ---- links
 
--- a line defines a symbol
-abbrev pub defines : Assembly → ℕ → Name → Bool
-defines assembly number name =
-    option_map_or (λ (outcome : Outcome). list_any (λ defined. same_name defined name) outcome.defined) (slice_get assembly.outcomes (number - 1)) false
-
--- a link whose text is a symbol leads to no line but one that defines it
-abbrev pub LeadsHome : Assembly → Link → Type 0
-LeadsHome assembly link = (name : Name) → (number : ℕ) → name_of link.words ≡ Some name → link.place ≡ Line number → IsTrue (defines assembly number name)
+-- a link whose text is a symbol leads to no line but the one that first defines it
+abbrev pub LeadsHome : List Mention → Link → Type 0
+LeadsHome mentions link = (name : Name) (number : ℕ) → name_of link.words ≡ Some name → link.place ≡ Line number
+    → number ≡ defining_line (mentions_of name mentions)
 
 -- ---- the page
 
@@ -75,7 +69,7 @@ pub record IsPage (front middle back : List ℕ) (assembly : Assembly) (written_
   pub once : (place : Place) → count_by (same_place place) (places (body sections)) ≤ 1
   pub differ : All IsWritten (places (body sections))
   pub alive : All (λ link. IsTrue (list_any (same_place link.place) (places (body sections)))) (links (body sections))
-  pub home : All (LeadsHome assembly) (links (body sections))
+  pub home : All (LeadsHome (mentions_from 1 assembly.outcomes)) (links (body sections))
 
 -- what stands in front of the titles of all pages, between these and the sections, and behind the sections
 unfoldable pub front : List ℕ

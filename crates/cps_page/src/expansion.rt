@@ -144,6 +144,7 @@ fn push_noted<'a>(
         section: PageSection::Listing,
         text: row,
         form,
+        begins_word: false,
         note,
         is_summary: true,
     };

@@ -44,6 +44,7 @@ details[open] > summary::after { content: \"\\25be\"; }
 details[open] > summary small { display: none; }
 summary small { margin-left: 3ch; }
 small { font-size: inherit; user-select: none; -webkit-user-select: none; }
+#listing a[href^=\"#w\"], #words a { text-decoration: none; }
 .c { display: block; padding-left: 44ch; color: var(--bad); font: var(--size)/1.5 var(--mono); white-space: pre-wrap; }
 #flags .c { padding-left: 8ch; }
 .f { font-weight: 600; color: var(--bad); }

@@ -12,6 +12,7 @@
 //! - `sections.rt`: the sections
 //! - `tables.rt`: tables beside the texts
 //! - `telling.rt`: what is told beside the rows of a text, as these are gone through
+//! - `words.rt`: the words to which links can lead
 #![tactic(auto)]
 
 mod beside;
@@ -26,6 +27,7 @@ mod page;
 mod sections;
 mod tables;
 mod telling;
+mod words;
 
 pub use beside::{Beside, Block, Cause, Form, FormUse};
 pub use frame::{BACK, FRONT, MIDDLE};

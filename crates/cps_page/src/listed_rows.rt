@@ -91,6 +91,7 @@ fn push_one(
         section: PageSection::Listing,
         text: row.text,
         form: telling.form_at(row.line, row.before),
+        begins_word: telling.takes_address(row.text),
         note: b"",
         is_summary: false,
     };

@@ -1,6 +1,6 @@
 //! The page.
 ghost use Rattle.std.specs.Prelude.{◌≡◌, IfOk, OnOk};
-ghost use Rattle.cps_list.specs.Symbols.{symbols_text};
+ghost use Rattle.cps_list.specs.Binary.{binary_text};
 ghost use Rattle.cps_page.specs.Code.Making.{AddsSections, AreTargets};
 ghost use Rattle.cps_page.specs.Page.{IsPage, IsPageOf, title_text};
 
@@ -11,6 +11,7 @@ use crate::sections::{
     push_flag_section, push_instruction_section, push_listing_section, push_memory_section,
     push_symbol_section, push_word_section,
 };
+use crate::words::list_words;
 use cps_list::{Part, View, make_text};
 use cps_markup::{Targets, push_text};
 use cps_text::Name;
@@ -37,12 +38,12 @@ pub fn make_page<V: View>(
 ) -> Result<Vec<u8>, AllocError>
     ensures { IfOk result (λ page. IsPage frame.now.front.now frame.now.middle.now frame.now.back.now (V.assembly view.now) page.items) }
 {
-    let symbols = make_text(alloc, view, Part::Symbols)?;
-    let targets = list_targets(alloc, view, &symbols)?;
+    let words = make_text(alloc, view, Part::Binary)?;
+    let targets = list_targets(alloc, view, &words)?;
     let making = Making {
         targets: &targets,
         beside,
-        symbols: &symbols,
+        words: &words,
     };
     let mut page = Vec::new(alloc);
     page.extend_from_slice(frame.front)?;
@@ -79,14 +80,16 @@ fn title_of(program: &Option<Name>) -> &[u8]
     }
 }
 
-/// The lines and symbols to which links can lead.
-fn list_targets<V: View>(alloc: Global, view: &V, symbols: &[u8]) -> Result<Targets, AllocError>
+/// The lines, symbols and words to which links can lead.
+fn list_targets<V: View>(alloc: Global, view: &V, words: &[u8]) -> Result<Targets, AllocError>
     ensures { IfOk result (AreTargets (V.assembly view.now)) }
 {
-    let entries = list_entries(alloc, view, symbols)?;
+    let entries = list_entries(alloc, view)?;
+    let words = list_words(alloc, view, words)?;
     Ok(Targets {
         count: view.count(),
         entries,
+        words,
     })
 }
 
@@ -95,8 +98,8 @@ fn list_targets<V: View>(alloc: Global, view: &V, symbols: &[u8]) -> Result<Targ
 struct Making<'a> {
     targets: &'a Targets,
     beside: &'a Beside,
-    /// The cross-reference.
-    symbols: &'a [u8],
+    /// The binary text.
+    words: &'a [u8],
 }
 
 /// The sections.
@@ -106,19 +109,19 @@ fn push_sections<V: View>(
     view: &V,
     making: &Making<'_>,
 ) -> Result<(), AllocError>
-    requires { making.now.symbols.now ≡ symbols_text (V.assembly view.now) }
+    requires { making.now.words.now ≡ binary_text (V.assembly view.now) }
     ensures { OnOk result (AddsSections making.now.targets.now (V.assembly view.now) page.old.items page.new.items) }
 {
     let Making {
         targets,
         beside,
-        symbols,
+        words,
     } = *making;
     push_memory_section(alloc, page, targets, beside)?;
     push_listing_section(alloc, page, view, targets, beside)?;
-    let words = make_text(alloc, view, Part::Binary)?;
-    push_word_section(page, targets, &words)?;
-    push_symbol_section(page, targets, symbols)?;
+    push_word_section(page, targets, words)?;
+    let symbols = make_text(alloc, view, Part::Symbols)?;
+    push_symbol_section(page, targets, &symbols)?;
     let flags = make_text(alloc, view, Part::Flags)?;
     push_flag_section(alloc, page, targets, beside, &flags)?;
     push_instruction_section(alloc, page, targets, beside)?;

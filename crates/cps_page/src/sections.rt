@@ -1,9 +1,9 @@
 //! The sections of a page.
-ghost use Rattle.std.specs.Prelude.{◌≡◌, [], ◌∷◌, ◌++◌, OnOk};
+ghost use Rattle.std.specs.Prelude.{◌≡◌, ◌≤◌, [], ◌∷◌, ◌++◌, OnOk, length};
 ghost use Rattle.cps_markup.specs.Links.{Leads};
 ghost use Rattle.cps_markup.specs.Markup.{identifier, opening};
 ghost use Rattle.cps_markup.specs.Code.Adding.{Adds};
-ghost use Rattle.cps_page.specs.Code.Making.{AddsListingSection, AddsSection, AddsSymbolSection, symbols_among};
+ghost use Rattle.cps_page.specs.Code.Making.{AddsListingSection, AddsSection, AddsSymbolSection, AddsWordSection, symbols_among, words_among};
 
 use crate::beside::Beside;
 use crate::flags::push_flags;
@@ -50,17 +50,17 @@ pub fn push_listing_section<V: View>(
     Ok(())
 }
 
-/// The section of the binary text.
+/// The section of the binary text, in which each word to which links can lead is a place.
 pub fn push_word_section(
     page: &mut Vec<u8>,
     targets: &Targets,
     text: &[u8],
 ) -> Result<(), AllocError>
-    ensures { OnOk result (AddsSection targets.now PageSection.Words text.now [] page.old.items page.new.items) }
+    ensures { OnOk result (AddsWordSection targets.now text.now page.old.items page.new.items) }
 {
     push_begin(page, PageSection::Words)?;
     push_heading(page, targets, b"Words")?;
-    push_rows(page, targets, PageSection::Words, text)?;
+    push_words(page, targets, text)?;
     push_closing(page, Tag::Section)?;
     Ok(())
 }
@@ -119,7 +119,9 @@ fn push_symbols(page: &mut Vec<u8>, targets: &Targets, text: &[u8]) -> Result<()
 {
     let mut rest = text;
     for entry in &targets.entries {
-        let (row, behind) = rest.split_at(row_length(rest));
+        let (others, rows) = rest.split_at(length_before(rest, entry.name.text()));
+        push_rows(page, targets, PageSection::Symbols, others)?;
+        let (row, behind) = rows.split_at(row_length(rows));
         push_group(
             page,
             targets,
@@ -130,6 +132,48 @@ fn push_symbols(page: &mut Vec<u8>, targets: &Targets, text: &[u8]) -> Result<()
         rest = behind;
     }
     push_rows(page, targets, PageSection::Symbols, rest)
+}
+
+/// How long the rows are before the one that begins with a name: those of symbols that no line defines. 0 where none begins with it.
+fn length_before(rows: &[u8], name: &[u8]) -> usize
+    ensures { result ≤ length rows.now }
+{
+    let mut length: usize = 0;
+    for row in rows.split(|byte| *byte == b'\n') {
+        if row.starts_with(name) && row.get(name.len()) == Some(&b' ') {
+            return length.min(rows.len());
+        }
+        length = length.saturating_add(row.len()).saturating_add(1);
+    }
+    0
+}
+
+/// The rows of the binary text: one without a word, and one for each word.
+fn push_words(page: &mut Vec<u8>, targets: &Targets, text: &[u8]) -> Result<(), AllocError>
+    ensures { OnOk result (Adds (Leads targets.now) text.now (words_among targets.now.words.items) page.old.items page.new.items) }
+{
+    let (first, words) = text.split_at(row_length(text));
+    push_rows(page, targets, PageSection::Words, first)?;
+    push_word_rows(page, targets, words)?;
+    Ok(())
+}
+
+fn push_word_rows(page: &mut Vec<u8>, targets: &Targets, text: &[u8]) -> Result<(), AllocError>
+    ensures { OnOk result (Adds (Leads targets.now) text.now (words_among targets.now.words.items) page.old.items page.new.items) }
+{
+    let mut rest = text;
+    for word in &targets.words {
+        let (row, behind) = rest.split_at(row_length(rest));
+        push_group(
+            page,
+            targets,
+            PageSection::Words,
+            Place::Word(word.digits),
+            row,
+        )?;
+        rest = behind;
+    }
+    push_rows(page, targets, PageSection::Words, rest)
 }
 
 /// The begin of a section.

@@ -31,7 +31,8 @@ const BEFORE_COUNT: usize = 30;
 
 const BEFORE_SENTENCE: usize = 39;
 
-/// Appends the table of blocks: where they stand, how many words they have, and a bar.
+/// Appends the table of blocks: where they stand, how many words they have, and a bar with `#` for words that are filled and `-` for words that are only
+/// reserved.
 pub fn push_blocks(
     alloc: Global,
     page: &mut Vec<u8>,
@@ -42,7 +43,7 @@ pub fn push_blocks(
 {
     let end = end_of(blocks);
     for block in blocks {
-        let row = block_row(alloc, block, end)?;
+        let row = block_row(alloc, targets, block, end)?;
         push_note(page, targets, Style::Table, &row)?;
     }
     Ok(())
@@ -57,7 +58,12 @@ fn end_of(blocks: &[Block]) -> u64 {
     end
 }
 
-fn block_row(alloc: Global, block: &Block, end: u64) -> Result<Vec<u8>, AllocError> {
+fn block_row(
+    alloc: Global,
+    targets: &Targets,
+    block: &Block,
+    end: u64,
+) -> Result<Vec<u8>, AllocError> {
     let mut row = Vec::new(alloc);
     row.extend_from_slice(&block.name)?;
     fill_columns(&mut row, 0, BEFORE_ADDRESS)?;
@@ -66,20 +72,49 @@ fn block_row(alloc: Global, block: &Block, end: u64) -> Result<Vec<u8>, AllocErr
     push_decimal(&mut row, block.words)?;
     row.extend_from_slice(b" words")?;
     fill_columns(&mut row, 0, BEFORE_BAR)?;
-    push_bar(&mut row, block, end)?;
+    push_bar(&mut row, targets, block, end)?;
     Ok(row)
 }
 
-/// Appends the memory up to an address, with `#` where a block is.
-fn push_bar(row: &mut Vec<u8>, block: &Block, end: u64) -> Result<(), AllocError> {
+/// Appends the memory up to an address, with the words of a block.
+fn push_bar(
+    row: &mut Vec<u8>,
+    targets: &Targets,
+    block: &Block,
+    end: u64,
+) -> Result<(), AllocError> {
     let behind = block.address.saturating_add(block.words);
     for column in 0..BAR_COLUMNS {
         let first = share(column, end);
         let next = share(column + 1, end).max(first.saturating_add(1));
-        let is_block = first < behind && block.address < next;
-        row.push(if is_block { b'#' } else { b'.' })?;
+        row.push(bar_mark(targets, first.max(block.address), next.min(behind)))?;
     }
     Ok(())
+}
+
+/// What shows the words from an address on and before another one.
+fn bar_mark(targets: &Targets, from: u64, end: u64) -> u8 {
+    if from >= end {
+        b'.'
+    } else if targets.has_words(octal_digits(from), octal_digits(end)) {
+        b'#'
+    } else {
+        b'-'
+    }
+}
+
+/// The octal digits of an address as if they were decimal.
+fn octal_digits(address: u64) -> u32 {
+    let mut digits: u32 = 0;
+    let mut scale: u32 = 1;
+    let mut rest = address;
+    for _ in 0..ADDRESS_DIGITS {
+        let digit = (rest % 8) as u32;
+        digits = digits.saturating_add(scale.saturating_mul(digit));
+        scale = scale.saturating_mul(10);
+        rest /= 8;
+    }
+    digits
 }
 
 /// The address at which a column of the bar begins.

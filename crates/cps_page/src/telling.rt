@@ -5,7 +5,11 @@ use cps_markup::RowForm;
 /// The columns of flags.
 const FLAG_COLUMNS: usize = 8;
 
-/// The columns of the listing before the line.
+/// The columns of the listing before the address, before the code and before the line.
+const BEFORE_ADDRESS: usize = 9;
+
+const BEFORE_CODE: usize = 16;
+
 const BEFORE_LINE: usize = 44;
 
 /// What is told beside a text, up to a row.
@@ -16,6 +20,8 @@ pub struct Telling<'a> {
     told: usize,
     /// How many uses of forms are passed.
     passed: usize,
+    /// The address of the last row that had one, None before that.
+    address: Option<u32>,
 }
 
 impl<'a> Telling<'a> {
@@ -25,6 +31,7 @@ impl<'a> Telling<'a> {
             beside,
             told: 0,
             passed: 0,
+            address: None,
         }
     }
 
@@ -69,9 +76,21 @@ impl<'a> Telling<'a> {
         form
     }
 
+    /// Whether a row has another address than the last that had one.
+    pub fn takes_address(&mut self, row: &[u8]) -> bool {
+        let Some(address) = address_in(row) else {
+            return false;
+        };
+        let is_new = self.address != Some(address);
+        self.address = Some(address);
+        is_new
+    }
+
     fn form(&self, before: u32) -> Option<RowForm<'a>> {
         let form = self.beside.forms.get(before as usize)?;
         Some(RowForm {
+            name: form.name.as_slice(),
+            operands: form.operands.as_slice(),
             code: form.code.as_slice(),
             sentence: form.sentence.as_slice(),
         })
@@ -97,4 +116,21 @@ fn is_of(cause: &Cause, row: &[u8]) -> bool {
     let (_, shown) = row.split_at(BEFORE_LINE.min(row.len()));
     flags.contains(&cause.letter)
         && (cause.statement.is_empty() || shown.len() < 2 || shown.starts_with(&cause.statement))
+}
+
+/// The octal address of a row, None where it has none.
+fn address_in(row: &[u8]) -> Option<u32> {
+    let (front, _) = row.split_at(BEFORE_CODE.min(row.len()));
+    let (_, digits) = front.split_at(BEFORE_ADDRESS.min(front.len()));
+    let mut address = None;
+    for digit in digits {
+        match digit {
+            b'0'..=b'7' => {
+                let before: u32 = address.unwrap_or(0);
+                address = Some((before << 3) | u32::from(*digit & 7));
+            }
+            _ => return address,
+        }
+    }
+    address
 }

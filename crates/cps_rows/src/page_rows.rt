@@ -15,21 +15,22 @@ START    SA1     B1+3
          END
 ";
 
-/// Lines lead to themselves, a symbol in the location field to its row, one that is read to its definition. What stands beside the texts is in notes.
+/// Lines lead to themselves, a symbol in the location field to its row, one that is read to its definition, an address to its word where that begins, a word
+/// to its first line. A digit of a code and the operand that makes it look alike. What stands beside the texts is in notes.
 const PAGE: &str = "<T1|<section id=\"memory\"><h2>Memory</h2>\
 <small class=\"t\">nominal   000100    2 words       ...............................................#</small>\
 </section><section id=\"listing\"><h2>Listing</h2>\
 <div id=\"1\"><div><span>                                          <a href=\"#1\">1</a> </span>         IDENT   T1</div>
 </div><div id=\"2\"><div><span>                                          <a href=\"#2\">2</a> </span>         ABS</div>
-</div><div id=\"3\"><div><span>         <i class=\"z\">000100</i>                           <a href=\"#3\">3</a> </span>         ORG     100B</div>
+</div><div id=\"3\"><div><span>         <a href=\"#w100\">000100</a>                           <a href=\"#3\">3</a> </span>         ORG     100B</div>
 </div><div id=\"4\"><div><span>         <i class=\"z\">000100</i> 51<i class=\"i\">1</i><i class=\"j\">1</i><i class=\"K\">000003</i>                <a href=\"#4\">4</a> </span>\
-<a href=\"#START\">START</a>    <i title=\"&lt;set&gt;\">SA1</i>     B1+3</div>
+<a href=\"#START\">START</a>    <i title=\"&lt;set&gt;\">SA</i><i class=\"i\">1</i>     <i class=\"j\">B1</i>+<i class=\"K\">3</i></div>
 </div><div id=\"5\"><div><span>         <i class=\"z\">000100</i> 0400000100                <a href=\"#5\">5</a> </span>         EQ      <a href=\"#4\">START</a></div>
 <small class=\"c\">U a &amp; b</small></div><div id=\"6\"><div><span>                                          <a href=\"#6\">6</a> </span><i class=\"x\">* &lt;&amp;&gt;</i></div>
 </div><div id=\"7\"><div><span>                                          <a href=\"#7\">7</a> </span>         END</div>
 </div></section><section id=\"words\"><h2>Words</h2><div>IDENT T1</div>
-<div><i class=\"z\">000100</i> 51110000030400000100</div>
-</section><section id=\"symbols\"><h2>Symbols</h2><div id=\"START\"><div><a href=\"#4\">START</a>    <i class=\"z\">00000000000000000100 </i><a href=\"#4\">4</a> <a href=\"#5\">5</a></div>
+<div id=\"w100\"><div><i class=\"z\"><a href=\"#4\">000100</a></i> 51110000030400000100</div>
+</div></section><section id=\"symbols\"><h2>Symbols</h2><div id=\"START\"><div><a href=\"#4\">START</a>    <i class=\"z\">00000000000000000100 </i><a href=\"#4\">4</a> <a href=\"#5\">5</a></div>
 </div></section><section id=\"flags\"><h2>Flags</h2><div>0 flagged lines</div>
 </section><section id=\"instructions\"><h2>Instructions</h2>\
 <small class=\"t\">SAi    Bj+K       51ijKKKKKK  1        &lt;set&gt;</small></section>>";
@@ -93,4 +94,29 @@ fn page_of(alloc: Global, source: &str) -> Vec<u8> {
 #[test]
 fn makes_a_page(rt: HostRuntime) {
     assert_row(&rt, 0, "a page", &page_of(rt.alloc(), PROGRAM), PAGE);
+}
+
+/// The line of a page that begins so.
+fn line_of<'a>(page: &'a [u8], begin: &[u8]) -> &'a [u8] {
+    for line in page.split(|byte| *byte == b'\n') {
+        if line.starts_with(begin) {
+            return line;
+        }
+    }
+    b""
+}
+
+/// A symbol's place is its own row, though one stands before it that no line defines.
+#[test]
+fn places_a_symbol_at_its_row(rt: HostRuntime) {
+    let page = page_of(rt.alloc(), "B        BSS     1\n         SA1     A\n");
+    let expected =
+        "<div id=\"B\"><div><a href=\"#1\">B</a>        <i class=\"z\">00000000000000000000 </i><a href=\"#1\">1</a></div>";
+    assert_row(
+        &rt,
+        0,
+        "the row of B",
+        line_of(&page, b"<div id=\"B\">"),
+        expected,
+    );
 }

@@ -27,24 +27,25 @@ SYMBOLS = b"START    00000000000000000100 4 7\n"
 FLAGS = b"0 flagged lines\n"
 ALL = LISTING + BINARY + SYMBOLS + FLAGS
 
-# the sections of its page: each line has its number for an identifier, each symbol its name; fields of codes have classes; notes tell what is no part of a text
-SECTIONS = b"""<section id="memory"><h2>Memory</h2><small class="t">nominal   000000    66 words      ################################################</small>\
+# the sections of its page: each line has its number for an identifier, each symbol its name, each word its address; fields of codes and their operands have
+# classes; notes tell what is no part of a text
+SECTIONS = b"""<section id="memory"><h2>Memory</h2><small class="t">nominal   000000    66 words      -----------------------------------------------#</small>\
 </section><section id="listing"><h2>Listing</h2><div id="1"><div><span>                                          <a href="#1">1</a> </span>         IDENT   T1</div>
 </div><div id="2"><div><span>                                          <a href="#2">2</a> </span>         ABS</div>
-</div><div id="3"><div><span>         <i class="z">000100</i>                           <a href="#3">3</a> </span>         ORG     100B</div>
+</div><div id="3"><div><span>         <a href="#w100">000100</a>                           <a href="#3">3</a> </span>         ORG     100B</div>
 </div><div id="4"><div><span>         <i class="z">000100</i> 51<i class="i">1</i><i class="j">1</i><i class="K">000003</i>                <a href="#4">4</a> </span>\
-<a href="#START">START</a>    <i title="Set Ai to (Bj) + K; A1 to A5 read to Xi, A6 and A7 write Xi">SA1</i>     B1+3</div>
+<a href="#START">START</a>    <i title="Set Ai to (Bj) + K; A1 to A5 read to Xi, A6 and A7 write Xi">SA</i><i class="i">1</i>     <i class="j">B1</i>+<i class="K">3</i></div>
 </div><div id="5"><div><span>         <i class="z">000100</i> 73<i class="i">6</i><i class="j">1</i>0                     <a href="#5">5</a> </span>\
-         <i title="Set Xi to (Xj)">SX6</i>     X1</div>
+         <i title="Set Xi to (Xj)">SX</i><i class="i">6</i>     <i class="j">X1</i></div>
 </div><div id="6"><div><span>         <i class="z">000100</i> 54<i class="i">6</i><i class="j">1</i>0                     <a href="#6">6</a> </span>\
-         <i title="Set Ai to (Aj); A1 to A5 read to Xi, A6 and A7 write Xi">SA6</i>     A1</div>
-</div><div id="7"><div><span>         <i class="z">000101</i> 0400<i class="K">000100</i>                <a href="#7">7</a> </span>\
-         <i title="Branch to K; the next instruction begins a word">EQ</i>      <a href="#4">START</a></div>
+         <i title="Set Ai to (Aj); A1 to A5 read to Xi, A6 and A7 write Xi">SA</i><i class="i">6</i>     <i class="j">A1</i></div>
+</div><div id="7"><div><span>         <a href="#w101">000101</a> 0400<i class="K">000100</i>                <a href="#7">7</a> </span>\
+         <i title="Branch to K; the next instruction begins a word">EQ</i>      <i class="K"><a href="#4">START</a></i></div>
 </div><div id="8"><div><span>                                          <a href="#8">8</a> </span>         END</div>
 </div></section><section id="words"><h2>Words</h2><div>IDENT T1</div>
-<div><i class="z">000100</i> 51110000037361054610</div>
-<div><i class="z">000101</i> 04000001004600046000</div>
-</section><section id="symbols"><h2>Symbols</h2><div id="START"><div><a href="#4">START</a>    <i class="z">00000000000000000100 </i><a href="#4">4</a> <a href="#7">7</a></div>
+<div id="w100"><div><i class="z"><a href="#4">000100</a></i> 51110000037361054610</div>
+</div><div id="w101"><div><i class="z"><a href="#7">000101</a></i> 04000001004600046000</div>
+</div></section><section id="symbols"><h2>Symbols</h2><div id="START"><div><a href="#4">START</a>    <i class="z">00000000000000000100 </i><a href="#4">4</a> <a href="#7">7</a></div>
 </div></section><section id="flags"><h2>Flags</h2><div>0 flagged lines</div>
 </section><section id="instructions"><h2>Instructions</h2><small class="t">EQ     K          0400KKKKKK  1        Branch to K; the next instruction begins a word</small>\
 <small class="t">SAi    Bj+K       51ijKKKKKK  1        Set Ai to (Bj) + K; A1 to A5 read to Xi, A6 and A7 write Xi</small>\

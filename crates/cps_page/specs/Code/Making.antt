@@ -1,42 +1,83 @@
 -- For the code of a page, not part of what a reader believes: its parts in the making.
-use Rattle.std.specs.Prelude.{◌≡◌, ℕ, ◌+◌, ◌<◌, ◌≤◌, ◌^◌, IsTrue, ⊤, List, [], ◌∷◌, ◌++◌, All, count_by, map, length, Option, None, Some}
-use Rattle.std.specs.declared.cmp.Ordering.TheVariants.{Less}
+use Rattle.std.specs.Prelude.{◌≡◌, ℕ, ◌+◌, ◌<◌, ◌≤◌, ◌^◌, ⊤, Bool, true, List, [], ◌∷◌, ◌++◌, All, count_by, map, filter, find, length, Option, None, Some, option_map}
+use Rattle.std.specs.Ordering.{is_lt}
 use Rattle.cps_text.specs.declared.name.Name.{Name}
 use Rattle.cps_list.specs.Assembly.{Assembly}
 use Rattle.cps_list.specs.Binary.{binary_text}
 use Rattle.cps_list.specs.Flagged.{flags_text}
 use Rattle.cps_list.specs.ListingText.{listing_text}
-use Rattle.cps_list.specs.Symbols.{name_order, symbols_text}
+use Rattle.cps_list.specs.declared.mention.Mention.{Mention}
+use Rattle.cps_list.specs.Symbols.{defining_line, mentions_from, mentions_of, name_order, symbols_text}
 use Rattle.cps_markup.specs.declared.place.Place.{Place}
-use Rattle.cps_markup.specs.declared.place.Place.TheVariants.{Line, Symbol, Section}
+use Rattle.cps_markup.specs.declared.place.Place.TheVariants.{Line, Symbol, Word, Section}
 use Rattle.cps_markup.specs.declared.place.PageSection.{PageSection}
 use Rattle.cps_markup.specs.declared.place.PageSection.TheVariants as page
 use Rattle.cps_markup.specs.declared.targets.Entry.{Entry}
 use Rattle.cps_markup.specs.declared.targets.Targets.{Targets}
-use Rattle.cps_markup.specs.Links.{Leads, is_of}
+use Rattle.cps_markup.specs.declared.targets.WordEntry.{WordEntry}
+use Rattle.cps_markup.specs.Links.{Leads, is_at, is_of}
 use Rattle.cps_markup.specs.PlaceLaws.{IsWritten}
 use Rattle.cps_markup.specs.Code.Adding.{Adds}
 use Rattle.cps_markup.specs.Markup.{Markup, nothing, written, said, places, links}
-use Rattle.cps_page.specs.Page.{Sections, body, section, defines}
+use Rattle.cps_page.specs.Page.{Sections, body, section}
 
 -- ---- symbols that are led to
 
 -- a name stands behind the last one
-abbrev pub IsBehind : Option Name → Name → Type 0
-IsBehind None name = ⊤
-IsBehind (Some last) name = name_order last name ≡ Less
+abbrev pub is_behind : Option Name → Name → Bool
+is_behind None name = true
+is_behind (Some last) name = is_lt (name_order last name)
 
--- each symbol once, none behind the last one, each with a line that defines it
-pub record AreEntriesTo (assembly : Assembly) (last : Option Name) (entries : List Entry) : Type 0 where
+-- the first mention that defines a symbol
+abbrev pub first_definition : Name → List Mention → Option Mention
+first_definition name mentions = find (λ mention. mention.is_definition) (mentions_of name mentions)
+
+-- a line is that of the first mention that defines a symbol
+abbrev pub IsDefinedOn : List Mention → Entry → Type 0
+IsDefinedOn mentions entry = option_map (λ (mention : Mention). mention.line) (first_definition entry.name mentions) ≡ Some entry.line
+
+-- Each symbol of some mentions once, none behind the last one, each with the line that first defines it. A symbol behind the last one is defined nowhere.
+pub record AreEntriesTo (mentions : List Mention) (last : Option Name) (entries : List Entry) : Type 0 where
   pub once : (name : Name) → count_by (is_of name) entries ≤ 1
-  pub none_behind : (name : Name) → IsBehind last name → count_by (is_of name) entries ≡ 0
-  pub defined : All (λ entry. IsTrue (defines assembly entry.line entry.name)) entries
+  pub none_behind : (name : Name) → is_behind last name ≡ true → count_by (is_of name) entries ≡ 0
+  pub none_defined : (name : Name) → is_behind last name ≡ true → first_definition name mentions ≡ None
+  pub defined : All (IsDefinedOn mentions) entries
   pub written : All (λ entry. IsWritten (Symbol entry.name)) entries
 
-pub record AreEntries (assembly : Assembly) (entries : List Entry) : Type 0 where
+pub record AreEntries (mentions : List Mention) (entries : List Entry) : Type 0 where
   pub once : (name : Name) → count_by (is_of name) entries ≤ 1
-  pub defined : All (λ entry. IsTrue (defines assembly entry.line entry.name)) entries
+  pub defined : All (λ entry. entry.line ≡ defining_line (mentions_of entry.name mentions)) entries
   pub written : All (λ entry. IsWritten (Symbol entry.name)) entries
+
+-- the symbol of a mention behind others is added, if none of these defines it
+abbrev pub AddsFirst : Mention → List Entry → List Entry → Type 0
+AddsFirst mention old new = (front : List Mention) (last : Option Name) → AreEntriesTo front last old → is_behind last mention.name ≡ true
+    → mention.is_definition ≡ true → AreEntriesTo (front ++ mention ∷ []) (Some mention.name) new
+
+-- a mention is behind others, from whose symbols entries are made up to the last one, and then up to one that may be another
+abbrev pub AddsMention : Mention → Option Name → Option Name → List Entry → List Entry → Type 0
+AddsMention mention last now old new = (front : List Mention) → AreEntriesTo front last old → AreEntriesTo (front ++ mention ∷ []) now new
+
+-- ---- words that are led to
+
+-- a word stands behind the last one
+abbrev pub IsPast : Option ℕ → ℕ → Type 0
+IsPast None digits = ⊤
+IsPast (Some last) digits = last < digits
+
+-- each word once, none behind the last one
+pub record AreWordsTo (last : Option ℕ) (words : List WordEntry) : Type 0 where
+  pub once : (digits : ℕ) → count_by (is_at digits) words ≤ 1
+  pub none_behind : (digits : ℕ) → IsPast last digits → count_by (is_at digits) words ≡ 0
+  pub written : All (λ word. IsWritten (Word word.digits)) words
+
+-- a word behind the last one is added
+abbrev pub AddsWord : ℕ → List WordEntry → List WordEntry → Type 0
+AddsWord digits old new = (last : Option ℕ) → AreWordsTo last old → IsPast last digits → AreWordsTo (Some digits) new
+
+pub record AreWords (words : List WordEntry) : Type 0 where
+  pub once : (digits : ℕ) → count_by (is_at digits) words ≤ 1
+  pub written : All (λ word. IsWritten (Word word.digits)) words
 
 -- ---- places
 
@@ -48,11 +89,14 @@ lines_from number (line ∷ lines) = Line number ∷ lines_from (number + 1) lin
 abbrev pub symbols_among : List Entry → List Place
 symbols_among entries = map (λ entry. Symbol entry.name) entries
 
+abbrev pub words_among : List WordEntry → List Place
+words_among words = map (λ word. Word word.digits) words
+
 -- all places of a page
-abbrev pub all_places : List (List ℕ) → List Entry → List Place
-all_places lines entries =
-    Section page.Memory ∷ (Section page.Listing ∷ (lines_from 1 lines ++ Section page.Words ∷ (Section page.Symbols
-    ∷ (symbols_among entries ++ Section page.Flags ∷ (Section page.Instructions ∷ [])))))
+abbrev pub all_places : List (List ℕ) → Targets → List Place
+all_places lines targets =
+    Section page.Memory ∷ (Section page.Listing ∷ (lines_from 1 lines ++ Section page.Words ∷ (words_among targets.words.items ++ Section page.Symbols
+    ∷ (symbols_among targets.entries.items ++ Section page.Flags ∷ (Section page.Instructions ∷ [])))))
 
 -- ---- sections
 
@@ -75,6 +119,10 @@ AddsListingSection targets assembly old new = AddsSection targets page.Listing (
 abbrev pub AddsSymbolSection : Targets → List ℕ → List ℕ → List ℕ → Type 0
 AddsSymbolSection targets text old new = AddsSection targets page.Symbols text (symbols_among targets.entries.items) old new
 
+-- a page has the binary text more, in which each word that can be led to is a place
+abbrev pub AddsWordSection : Targets → List ℕ → List ℕ → List ℕ → Type 0
+AddsWordSection targets text old new = AddsSection targets page.Words text (words_among targets.words.items) old new
+
 -- a page has the sections more
 pub record AddsSections (targets : Targets) (assembly : Assembly) (old new : List ℕ) : Type 0 where
   pub sections : Sections
@@ -85,13 +133,12 @@ pub record AddsSections (targets : Targets) (assembly : Assembly) (old new : Lis
   pub symbols : said sections.symbols ≡ symbols_text assembly
   pub flags : said sections.flags ≡ flags_text assembly
   pub instructions : said sections.instructions ≡ []
-  pub same_places : places (body sections) ≡ all_places assembly.lines targets.entries.items
+  pub same_places : places (body sections) ≡ all_places assembly.lines targets
   pub good : All (Leads targets) (links (body sections))
 
--- the lines and symbols of a source
+-- the lines, symbols and words of a source
 pub record AreTargets (assembly : Assembly) (targets : Targets) : Type 0 where
   pub lines : targets.count ≡ length assembly.lines
-  pub once : (name : Name) → count_by (is_of name) targets.entries.items ≤ 1
-  pub defined : All (λ entry. IsTrue (defines assembly entry.line entry.name)) targets.entries.items
-  pub written : All (λ entry. IsWritten (Symbol entry.name)) targets.entries.items
+  pub symbols : AreEntries (mentions_from 1 assembly.outcomes) targets.entries.items
+  pub words : AreWords targets.words.items
   pub few : length assembly.lines < 2 ^ 32

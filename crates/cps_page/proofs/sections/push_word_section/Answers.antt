@@ -4,5 +4,5 @@ use Rattle.cps_page.proofs.sections.push_word_section.Goals as goal
 
 pub returns : goal.returns
 returns c =
-    adds-section c.args.targets.now page.Words _ _ c.args.page.now.items c.push_begin.new.page.items c.push_heading.new.page.items c.push_rows.new.page.items c.push_closing.new.page.items
-    c.in_ok-push_begin.ensures c.in_ok-push_heading.ensures c.in_ok-push_rows.ensures c.in_ok-push_closing.ensures
+    adds-section c.args.targets.now page.Words _ _ c.args.page.now.items c.push_begin.new.page.items c.push_heading.new.page.items c.push_words.new.page.items c.push_closing.new.page.items
+    c.in_ok-push_begin.ensures c.in_ok-push_heading.ensures c.in_ok-push_words.ensures c.in_ok-push_closing.ensures
