@@ -11,15 +11,15 @@ use super::ladder::{Attempt, climb};
 use super::selection::Selection;
 use super::wanted::{Wanted, fault_in};
 use cps_claims::{ClaimedWords, OctalReading, RowKinds, read_octal};
-use cps_draft::Hints;
+use cps_draft::{Hints, Knowledge, UnreadRows, find_ident};
 use cps_state::Hashing;
 use cps_text::limits::MOST_LINES;
 use std::alloc::Global;
 
 /// Makes a source for the words of an octal text: its lines, each ended by a newline.
 ///
-/// The hints only change how the source looks. Each draft is assembled, and its words are compared with the octal text at each address that
-/// there is, before it is answered.
+/// The hints, and a name that the text has in its first row, only change how the source looks. Each draft is assembled, and its words are
+/// compared with the octal text at each address that there is, before it is answered.
 pub fn disassemble(
     alloc: Global,
     hashing: Hashing,
@@ -36,7 +36,12 @@ pub fn disassemble(
     if rows.counts.read == 0 {
         return Err(why_no_row(&rows));
     }
-    select_words(alloc, hashing, words, selection, hints)
+    let known = Knowledge {
+        hints,
+        ident: find_ident(octal),
+        unread: unread_rows(&rows),
+    };
+    select_words(alloc, hashing, words, selection, known)
 }
 
 /// Makes a source for the words that are claimed and selected.
@@ -45,12 +50,12 @@ fn select_words(
     hashing: Hashing,
     claims: ClaimedWords,
     selection: Selection,
-    hints: &Hints,
+    known: Knowledge<'_>,
 ) -> Result<Vec<u8>, DisassemblyFault>
     ensures { (octal : List ℕ) → Holds claims (claims_of selection octal) → Disassembles selection octal result }
 {
     match Wanted::of(alloc, claims, selection) {
-        Ok(wanted) => make_source(alloc, hashing, &wanted, hints),
+        Ok(wanted) => make_source(alloc, hashing, &wanted, known),
         Err(_) => Err(DisassemblyFault::Memory),
     }
 }
@@ -60,7 +65,7 @@ fn make_source(
     alloc: Global,
     hashing: Hashing,
     wanted: &Wanted,
-    hints: &Hints,
+    known: Knowledge<'_>,
 ) -> Result<Vec<u8>, DisassemblyFault>
     ensures { (octal : List ℕ) → IsWanted wanted.now.selection (claims_of wanted.now.selection octal) wanted.now
         → Disassembles wanted.now.selection octal result }
@@ -68,7 +73,7 @@ fn make_source(
     if let Some(fault) = fault_in(wanted) {
         return Err(fault);
     }
-    match climb(alloc, hashing, wanted, hints) {
+    match climb(alloc, hashing, wanted, known) {
         Ok(attempt) => answer(attempt),
         Err(_) => Err(DisassemblyFault::Memory),
     }
@@ -83,6 +88,15 @@ fn answer(attempt: Attempt) -> Result<Vec<u8>, DisassemblyFault>
         Attempt::Unfit(lines) if lines > MOST_LINES => Err(DisassemblyFault::TooManyLines(lines)),
         _ => Err(DisassemblyFault::NotMade),
     }
+}
+
+/// The rows that aren't read.
+fn unread_rows(rows: &RowKinds) -> Option<UnreadRows> {
+    let first = rows.unread.first()?;
+    Some(UnreadRows {
+        count: rows.unread.len(),
+        first: first.number,
+    })
 }
 
 /// Why no row of an octal text is read.

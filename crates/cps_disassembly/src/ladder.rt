@@ -6,7 +6,7 @@ ghost use Rattle.cps_disassembly.specs.Code.Kept.{Attempts};
 
 use super::certificate::{Certificate, Failures, certify};
 use super::wanted::Wanted;
-use cps_draft::{Boldness, Draft, Hints, make_draft};
+use cps_draft::{Boldness, Draft, Knowledge, make_draft};
 use cps_state::Hashing;
 use std::alloc::{AllocError, Global};
 
@@ -27,15 +27,15 @@ pub fn climb(
     alloc: Global,
     hashing: Hashing,
     wanted: &Wanted,
-    hints: &Hints,
+    known: Knowledge<'_>,
 ) -> Result<Attempt, AllocError>
     ensures { (octal : List ℕ) → Holds wanted.now.claims (claims_of wanted.now.selection octal)
         → IfOk result (Attempts wanted.now.selection octal) }
 {
-    match make_attempt(alloc, hashing, wanted, hints, &Boldness::Draft)? {
+    match make_attempt(alloc, hashing, wanted, known, &Boldness::Draft)? {
         Attempt::Made(text) => Ok(Attempt::Made(text)),
-        Attempt::Failed(_) => climb_placed(alloc, hashing, wanted, hints),
-        Attempt::Unfit(_) => make_attempt(alloc, hashing, wanted, hints, &Boldness::Plain),
+        Attempt::Failed(_) => climb_placed(alloc, hashing, wanted, known),
+        Attempt::Unfit(_) => make_attempt(alloc, hashing, wanted, known, &Boldness::Plain),
     }
 }
 
@@ -43,17 +43,17 @@ fn climb_placed(
     alloc: Global,
     hashing: Hashing,
     wanted: &Wanted,
-    hints: &Hints,
+    known: Knowledge<'_>,
 ) -> Result<Attempt, AllocError>
     ensures { (octal : List ℕ) → Holds wanted.now.claims (claims_of wanted.now.selection octal)
         → IfOk result (Attempts wanted.now.selection octal) }
 {
-    match make_attempt(alloc, hashing, wanted, hints, &Boldness::Placed)? {
+    match make_attempt(alloc, hashing, wanted, known, &Boldness::Placed)? {
         Attempt::Made(text) => Ok(Attempt::Made(text)),
         Attempt::Failed(words) => {
-            climb_without(alloc, hashing, wanted, hints, &Boldness::Without(words))
+            climb_without(alloc, hashing, wanted, known, &Boldness::Without(words))
         }
-        Attempt::Unfit(_) => make_attempt(alloc, hashing, wanted, hints, &Boldness::Plain),
+        Attempt::Unfit(_) => make_attempt(alloc, hashing, wanted, known, &Boldness::Plain),
     }
 }
 
@@ -61,16 +61,16 @@ fn climb_without(
     alloc: Global,
     hashing: Hashing,
     wanted: &Wanted,
-    hints: &Hints,
+    known: Knowledge<'_>,
     boldness: &Boldness,
 ) -> Result<Attempt, AllocError>
     ensures { (octal : List ℕ) → Holds wanted.now.claims (claims_of wanted.now.selection octal)
         → IfOk result (Attempts wanted.now.selection octal) }
 {
-    match make_attempt(alloc, hashing, wanted, hints, boldness)? {
+    match make_attempt(alloc, hashing, wanted, known, boldness)? {
         Attempt::Made(text) => Ok(Attempt::Made(text)),
         Attempt::Failed(_) | Attempt::Unfit(_) => {
-            make_attempt(alloc, hashing, wanted, hints, &Boldness::Plain)
+            make_attempt(alloc, hashing, wanted, known, &Boldness::Plain)
         }
     }
 }
@@ -80,14 +80,14 @@ fn make_attempt(
     alloc: Global,
     hashing: Hashing,
     wanted: &Wanted,
-    hints: &Hints,
+    known: Knowledge<'_>,
     boldness: &Boldness,
 ) -> Result<Attempt, AllocError>
     ensures { (octal : List ℕ) → Holds wanted.now.claims (claims_of wanted.now.selection octal)
         → IfOk result (Attempts wanted.now.selection octal) }
 {
     let machine = wanted.selection.machine;
-    let draft = make_draft(alloc, machine, &wanted.words, hints, boldness)?;
+    let draft = make_draft(alloc, machine, &wanted.words, known, boldness)?;
     try_draft(alloc, hashing, wanted, draft)
 }
 

@@ -1,7 +1,7 @@
 //! A draft of a source.
 use super::drafting::push_draft;
 use super::guess::Guess;
-use super::hints::{Boldness, GivenWord, Hints};
+use super::hints::{Boldness, GivenWord, Knowledge};
 use super::image::Image;
 use super::lines::Lines;
 use cps_expr::Machine;
@@ -21,12 +21,12 @@ pub fn make_draft(
     alloc: Global,
     machine: Machine,
     words: &[GivenWord],
-    hints: &Hints,
+    known: Knowledge<'_>,
     boldness: &Boldness,
 ) -> Result<Draft, AllocError> {
     let image = Image { machine, words };
-    let guess = Guess::of(alloc, image, hints, boldness)?;
-    let mut lines = Lines::new(alloc, hints.is_bare);
-    push_draft(alloc, &guess, hints, boldness, &mut lines)?;
+    let guess = Guess::of(alloc, image, known.hints, boldness)?;
+    let mut lines = Lines::new(alloc, known.hints.is_bare);
+    push_draft(alloc, &guess, known, boldness, &mut lines)?;
     Ok(lines.into_draft())
 }

@@ -2,7 +2,7 @@
 use super::code_lines::{push_code, push_heading};
 use super::data_lines::push_data;
 use super::guess::Guess;
-use super::hints::{Boldness, Hints};
+use super::hints::{Boldness, Hints, Knowledge, UnreadRows};
 use super::image::{Image, MOST_GAP};
 use super::lines::Lines;
 use super::number::{push_decimal, push_number};
@@ -12,11 +12,11 @@ use std::alloc::{AllocError, Global};
 pub fn push_draft(
     alloc: Global,
     guess: &Guess<'_>,
-    hints: &Hints,
+    known: Knowledge<'_>,
     boldness: &Boldness,
     lines: &mut Lines,
 ) -> Result<(), AllocError> {
-    push_head(guess, hints, lines)?;
+    push_head(guess, known, lines)?;
     let is_placed = matches!(boldness, Boldness::Placed);
     let mut next = 0;
     for index in 0..guess.image.words.len() {
@@ -27,7 +27,7 @@ pub fn push_draft(
         next = push_word(alloc, guess, lines, index)?;
     }
     push_tail(guess, lines)?;
-    push_end(guess, hints, lines)
+    push_end(guess, known.hints, lines)
 }
 
 /// Writes the lines that begin at a word. The index behind its words.
@@ -47,13 +47,9 @@ fn push_word(
 }
 
 /// Writes the lines in front of the words.
-fn push_head(guess: &Guess<'_>, hints: &Hints, lines: &mut Lines) -> Result<(), AllocError> {
-    let ident: &[u8] = match &hints.ident {
-        Some(ident) => ident,
-        None => b"DUMP",
-    };
+fn push_head(guess: &Guess<'_>, known: Knowledge<'_>, lines: &mut Lines) -> Result<(), AllocError> {
     lines.begin(b"", b"IDENT")?;
-    lines.text().extend_from_slice(ident)?;
+    known.push_ident(lines.text())?;
     lines.end(None)?;
     let machine: &[u8] = if guess.image.is_central() {
         b"ABS"
@@ -64,6 +60,9 @@ fn push_head(guess: &Guess<'_>, hints: &Hints, lines: &mut Lines) -> Result<(), 
     lines.end(None)?;
     lines.remark(b"")?;
     push_counts(guess, lines)?;
+    if let Some(unread) = known.unread {
+        push_unread(unread, lines)?;
+    }
     push_outside(guess, lines)?;
     lines.remark(b"")
 }
@@ -86,6 +85,21 @@ fn push_counts(guess: &Guess<'_>, lines: &mut Lines) -> Result<(), AllocError> {
     lines.text().extend_from_slice(b", ")?;
     push_decimal(lines.text(), guess.coding.count())?;
     lines.text().extend_from_slice(b" OF THEM CODE.")?;
+    lines.end_remark()
+}
+
+/// Writes the remark that tells how many rows aren't read.
+fn push_unread(unread: UnreadRows, lines: &mut Lines) -> Result<(), AllocError> {
+    let words: &[u8] = if unread.count == 1 {
+        b" ROW OF OCTAL ISN'T READ: ROW "
+    } else {
+        b" ROWS OF OCTAL AREN'T READ, THE FIRST IS ROW "
+    };
+    lines.begin_remark()?;
+    push_decimal(lines.text(), unread.count)?;
+    lines.text().extend_from_slice(words)?;
+    push_decimal(lines.text(), unread.first)?;
+    lines.text().push(b'.')?;
     lines.end_remark()
 }
 

@@ -1,3 +1,6 @@
+use cps_text::Name;
+use std::alloc::AllocError;
+
 /// A word of an octal text.
 #[derive(Clone, Copy)]
 pub struct GivenWord {
@@ -36,10 +39,39 @@ pub struct Hints {
     pub data: Vec<AddressRange>,
     /// The first name of a value counts, and the first value of a name.
     pub names: Vec<KnownName>,
-    /// The name in IDENT; None where it is DUMP.
+    /// The name in IDENT.
     pub ident: Option<Vec<u8>>,
     /// Whether no comments are written.
     pub is_bare: bool,
+}
+
+/// What is known beside the words: by a person, and by the text that gives them.
+#[derive(Clone, Copy)]
+pub struct Knowledge<'a> {
+    pub hints: &'a Hints,
+    /// The program's name in the text.
+    pub ident: Option<Name>,
+    /// None: each row of the text with digits is read.
+    pub unread: Option<UnreadRows>,
+}
+
+/// Rows of a text that may have digits, and aren't read.
+#[derive(Clone, Copy)]
+pub struct UnreadRows {
+    pub count: usize,
+    /// The number of the first, from 1.
+    pub first: usize,
+}
+
+impl Knowledge<'_> {
+    /// Appends the name in IDENT: a person's, else that of the text, else DUMP.
+    pub fn push_ident(&self, text: &mut Vec<u8>) -> Result<(), AllocError> {
+        match (&self.hints.ident, self.ident) {
+            (Some(ident), _) => text.extend_from_slice(ident),
+            (None, Some(name)) => text.extend_from_slice(name.text()),
+            (None, None) => text.extend_from_slice(b"DUMP"),
+        }
+    }
 }
 
 /// How much of a draft is guessed.

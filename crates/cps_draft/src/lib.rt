@@ -63,5 +63,5 @@ mod texts;
 mod told;
 
 pub use draft::{Draft, make_draft};
-pub use hints::{AddressRange, Boldness, GivenWord, Hints, KnownName};
-pub use name_rows::read_names;
+pub use hints::{AddressRange, Boldness, GivenWord, Hints, Knowledge, KnownName, UnreadRows};
+pub use name_rows::{find_ident, read_names};

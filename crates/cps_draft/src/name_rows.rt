@@ -18,6 +18,27 @@ pub fn read_names(alloc: Global, text: &[u8]) -> Result<Vec<KnownName>, AllocErr
     Ok(names)
 }
 
+/// The program's name that a text tells: a symbol behind IDENT in the first row. In a listing the number of the line stands in front of IDENT.
+pub fn find_ident(text: &[u8]) -> Option<Name> {
+    let row = text.split(|byte| *byte == b'\n').next()?;
+    let (first, behind) = first_word(row);
+    let (word, rest) = if first.iter().all(|byte| byte.is_ascii_digit()) {
+        first_word(behind)
+    } else {
+        (first, behind)
+    };
+    if !word.eq_ignore_ascii_case(b"IDENT") {
+        return None;
+    }
+    let (symbol, _) = first_word(rest);
+    let name = Name::read(symbol)?;
+    if name.was_generated() {
+        None
+    } else {
+        Some(name)
+    }
+}
+
 /// The name that a row tells.
 fn known_name(alloc: Global, row: &[u8]) -> Result<Option<KnownName>, AllocError> {
     let (symbol, behind) = first_word(row);

@@ -1,7 +1,8 @@
 //! Drafts of sources: the lines that are made of words.
 use super::assertions::{assert_row, assert_row_text, assert_same};
 use cps_draft::{
-    AddressRange, Boldness, Draft, GivenWord, Hints, KnownName, make_draft, read_names,
+    AddressRange, Boldness, Draft, GivenWord, Hints, Knowledge, KnownName, find_ident, make_draft,
+    read_names,
 };
 use cps_expr::Machine;
 use std::alloc::Global;
@@ -218,14 +219,18 @@ fn draft_of(
         };
         words.push(word).expect(rt, "memory");
     }
-    let made = make_draft(
-        common.alloc,
-        common.machine,
-        &words,
-        &common.hints,
-        boldness,
-    );
+    let known = told_by_hints(&common.hints);
+    let made = make_draft(common.alloc, common.machine, &words, known, boldness);
     made.expect(rt, "memory")
+}
+
+/// What hints alone tell.
+fn told_by_hints(hints: &Hints) -> Knowledge<'_> {
+    Knowledge {
+        hints,
+        ident: None,
+        unread: None,
+    }
 }
 
 /// Asserts that the drafts of the rows of a table have the lines that are wanted.
@@ -360,7 +365,8 @@ fn drafts_unread_digits_as_data(rt: HostRuntime) {
         unread: 0b100,
     };
     let words = [word];
-    let made = make_draft(all.alloc, all.machine, &words, &all.hints, &Boldness::Draft);
+    let known = told_by_hints(&all.hints);
+    let made = make_draft(all.alloc, all.machine, &words, known, &Boldness::Draft);
     let draft = made.expect(&rt, "memory");
     let lines = lines_of(&rt, all.alloc, &draft.text);
     assert_row_text(&rt, 0, &lines, "|DATA|51010000037361054610B; ");
@@ -386,5 +392,36 @@ fn reads_names(rt: HostRuntime) {
     for (at, (got, want)) in names.iter().zip(&ROWS_NAMES).enumerate() {
         assert_row_text(&rt, at, &got.name, want.0);
         assert_row(&rt, at, &got.value, &want.1);
+    }
+}
+
+/// Octal texts, and the program's name that each tells in its first row, or nothing.
+const IDENT_ROWS: [(&str, &str); 12] = [
+    ("IDENT SUM\n000100 00000000000000000001\n", "SUM"),
+    ("          ident  sum  ADDS UP\r\n", "SUM"),
+    (
+        "                                          1          IDENT  SUM",
+        "SUM",
+    ),
+    ("\tIDENT\tABCDEFGH", "ABCDEFGH"),
+    ("IDENT", ""),
+    ("IDENT\nSUM", ""),
+    ("\nIDENT SUM", ""),
+    ("IDENT ABCDEFGHI", ""),
+    ("IDENT SUM,100", ""),
+    ("IDENT 1SUM", ""),
+    ("IDENTS SUM", ""),
+    ("", ""),
+];
+
+#[test]
+fn reads_the_name_of_a_program(rt: HostRuntime) {
+    for (at, (text, want)) in IDENT_ROWS.iter().enumerate() {
+        let name = find_ident(text.as_bytes());
+        let got: &[u8] = match &name {
+            Some(name) => name.text(),
+            None => b"",
+        };
+        assert_row_text(&rt, at, got, want);
     }
 }

@@ -85,6 +85,76 @@ fn makes_the_words_again(rt: HostRuntime) {
     }
 }
 
+/// The program has the name of `--ident`, else that of the text's first row, else DUMP.
+#[test]
+fn names_the_program(rt: HostRuntime) {
+    const ROWS: [(&[&str], &str, &str); 4] = [
+        (
+            &["compass", "disassemble"],
+            "000100 04000001004600046000\n",
+            "IDENT DUMP\n000100 04000001004600046000\n",
+        ),
+        (
+            &["compass", "disassemble"],
+            "IDENT LOADER\n000100 04000001004600046000\n",
+            "IDENT LOADER\n000100 04000001004600046000\n",
+        ),
+        (
+            &["compass", "disassemble", "--ident", "x"],
+            "IDENT LOADER\n000100 04000001004600046000\n",
+            "IDENT X\n000100 04000001004600046000\n",
+        ),
+        (
+            &["compass", "disassemble", "--bare", "--columns", "10-36"],
+            "                                          1          IDENT  LOADER\n         000100 04000001004600046000  3 AGAIN    EQ  AGAIN\n",
+            "IDENT LOADER\n000100 04000001004600046000\n",
+        ),
+    ];
+    for (words, octal, want) in ROWS.iter() {
+        let got = words_again(&rt, rt.alloc(), words, octal);
+        assert_bytes(&rt, octal, &got, want);
+    }
+}
+
+/// A comment tells how many rows aren't read: of one a group of three digits, of the other letters that are taken for figures.
+#[test]
+fn tells_rows_that_are_not_read(rt: HostRuntime) {
+    const ROWS: [(&str, &str); 2] = [
+        (
+            "000100 00000000000000000001\n000101 123\n",
+            "*         1 ROW OF OCTAL ISN'T READ: ROW 2.\n",
+        ),
+        (
+            "WORDS\n000101 123\n000100 00000000000000000001\n000102 O1O1O\n",
+            "*         2 ROWS OF OCTAL AREN'T READ, THE FIRST IS ROW 2.\n",
+        ),
+    ];
+    for (octal, remark) in ROWS.iter() {
+        let mut reader = Counted::new(octal.as_bytes());
+        let got = call_with(rt.alloc(), &["compass", "disassemble"], &mut reader);
+        let mut want = Vec::new(rt.alloc());
+        for part in [SOURCE_FRONT, remark, SOURCE_END] {
+            want.extend_from_slice(part.as_bytes())
+                .expect(&rt, "memory");
+        }
+        let want = str::from_utf8(&want).unwrap_or("");
+        assert_call(&rt, &got, 0, want, "");
+    }
+}
+
+/// The source of a word at 100, up to what is said of its rows, and from there on.
+const SOURCE_FRONT: &str = "          IDENT  DUMP
+          ABS
+*
+*         1 WORD FROM 000100 TO 000100, 0 OF THEM CODE.
+";
+
+const SOURCE_END: &str = "*
+          ORG    100B
+          DATA   1                      000100 00000000000000000001
+          END
+";
+
 /// Where no source is made, why is told and nothing is written.
 #[test]
 fn tells_why_no_source_is_made(rt: HostRuntime) {

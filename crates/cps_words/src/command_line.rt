@@ -339,7 +339,12 @@ fn with_name_options<'a>(alloc: Global, command: Command<'a>) -> Result<Command<
     )?;
     let command = with_argument(
         command,
-        option(alloc, "ident", "NAME", "The program's name [default: DUMP]"),
+        option(
+            alloc,
+            "ident",
+            "NAME",
+            "The program's name [default: as in OCTAL, or DUMP]",
+        ),
     )?;
     with_argument(command, flag(alloc, "bare", "Write no comments"))
 }

@@ -132,7 +132,8 @@ What is code, what is data and what has a name is guessed, and may be told:
   --data LIST    these words are data, also where --code has them
   --names FILE   each row of FILE that begins with a symbol and an octal value
                  names that address, as 'batch --symbols' writes them
-  --ident NAME   the name in IDENT
+  --ident NAME   the name in IDENT, else that in a first row 'IDENT NAME' of
+                 OCTAL, else DUMP
   --bare         no comments
 
   --format dump  a row has whole words, one without an address the next ones; a
