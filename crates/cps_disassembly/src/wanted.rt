@@ -11,7 +11,7 @@ use super::certificate::is_wanted;
 use super::disassembly_fault::DisassemblyFault;
 use super::selection::Selection;
 use super::span::Span;
-use cps_claims::{ClaimedWord, ClaimedWords, MOST_DIGITS};
+use cps_claims::{ClaimedWord, ClaimedWords};
 use cps_draft::GivenWord;
 use cps_state::limit_of;
 use std::alloc::{AllocError, Global};
@@ -72,56 +72,38 @@ fn wanted_words(
 fn given_word(address: u32, word: &ClaimedWord) -> GivenWord
     ensures { result.address ≡ address }
 {
-    let digits = given_digits(word);
-    GivenWord {
-        address,
-        value: value_of(word, digits),
-        digits: digits as u8,
-        unread: unread_of(word, digits),
-    }
+    let found = find_digits(word);
+    GivenWord { address, ..found }
 }
 
-/// How many digits a word has up to the last that can be read.
-fn given_digits(word: &ClaimedWord) -> usize
-    ensures { result ≤ MOST_DIGITS }
-{
-    for place in (0..MOST_DIGITS).rev() {
-        if word.digit(place).is_known() {
-            return place + 1;
-        }
-    }
-    0
-}
-
-/// The number that the first so many digits of a word are.
-fn value_of(word: &ClaimedWord, digits: usize) -> u64
-    requires { digits ≤ MOST_DIGITS }
-{
-    let mut value: u64 = 0;
-    for place in 0..digits {
-        let digit = word.digit(place);
-        let number = if digit.is_known() {
-            digit.shown.saturating_sub(b'0')
+/// The digits of a word from the first up to the last that can be read, as those of a word at address 0.
+fn find_digits(word: &ClaimedWord) -> GivenWord {
+    let mut found = GivenWord {
+        address: 0,
+        value: 0,
+        digits: 0,
+        unread: 0,
+    };
+    let (mut count, mut value, mut unread): (u8, u64, u32) = (0, 0, 0);
+    for digit in &word.digits {
+        let number = digit.shown.wrapping_sub(b'0');
+        value = value.wrapping_mul(8);
+        if digit.is_known() {
+            value = value.wrapping_add(u64::from(number));
         } else {
-            0
-        };
-        value = value.wrapping_mul(8).wrapping_add(u64::from(number));
-    }
-    value
-}
-
-/// Which of the first so many digits of a word can't be read: bit 0 stands for the first.
-fn unread_of(word: &ClaimedWord, digits: usize) -> u32
-    requires { digits ≤ MOST_DIGITS }
-{
-    let mut unread: u32 = 0;
-    for place in (0..digits).rev() {
-        unread = unread.wrapping_mul(2);
-        if !word.digit(place).is_known() {
-            unread |= 1;
+            unread |= 1u32.wrapping_shl(u32::from(count));
+        }
+        count = count.wrapping_add(1);
+        if digit.is_known() {
+            found = GivenWord {
+                address: 0,
+                value,
+                digits: count,
+                unread,
+            };
         }
     }
-    unread
+    found
 }
 
 /// Why the words that are wanted can't be made, if that is known beforehand.

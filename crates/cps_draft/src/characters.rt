@@ -90,14 +90,19 @@ impl Characters {
         if body.is_empty() || (is_pair && text.is_empty()) {
             return None;
         }
-        let mut cost: u32 = if self.zeros() > 0 || is_pair { 3 } else { 1 };
+        let is_ended = body.len() < self.count;
+        let mut cost: u32 = if is_ended || is_pair { 3 } else { 1 };
+        let mut has_letter = false;
+        let mut has_zero = false;
         for byte in text {
             cost = cost.saturating_add(character_cost(*byte));
+            has_letter = has_letter || byte.is_ascii_uppercase();
+            has_zero = has_zero || *byte == ZERO;
         }
         if text.len() < body.len() {
             cost = cost.saturating_add(2);
         }
-        if self.letters() == 0 || body.iter().any(|byte| *byte == ZERO) {
+        if has_zero || !has_letter {
             cost = cost.saturating_add(if is_pair { 6 } else { 12 });
         }
         Some(cost)
@@ -118,6 +123,7 @@ pub fn without_end(text: &[u8], end: u8) -> &[u8] {
 }
 
 /// The bits that a character costs as text.
+#[inline]
 fn character_cost(byte: u8) -> u32 {
     match byte {
         b' ' => 3,

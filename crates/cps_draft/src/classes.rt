@@ -11,7 +11,16 @@ pub struct Classes<'a, 'b> {
     pub coding: &'b Coding,
 }
 
-impl Classes<'_, '_> {
+impl<'a, 'b> Classes<'a, 'b> {
+    /// Of the words of an image.
+    pub fn of(image: Image<'a>, told: &'b Told, coding: &'b Coding) -> Classes<'a, 'b> {
+        Classes {
+            image,
+            told,
+            coding,
+        }
+    }
+
     /// Whether a word is whole, and data that isn't to be a plain number.
     pub fn is_free(&self, index: usize) -> bool {
         self.image.is_whole(index) && !self.coding.is_code(index) && !self.told.is_plain(index)

@@ -17,14 +17,13 @@ const MOST_CALLERS: usize = 6;
 
 /// Writes the heading of a word that is called: where it is called.
 pub fn push_heading(guess: &Guess<'_>, lines: &mut Lines, index: usize) -> Result<(), AllocError> {
-    let address = guess.image.address(index);
-    let references = references_of(&guess.references, address);
-    if references.first().is_none_or(|it| it.how != Use::Called) {
+    if !guess.is_called(index) {
         return Ok(());
     }
+    let references = references_of(&guess.references, guess.image.address(index));
     lines.remark(b"")?;
     lines.begin_remark()?;
-    lines.text().extend_from_slice(guess.names.name(address))?;
+    lines.text().extend_from_slice(guess.name(index))?;
     lines.text().extend_from_slice(b" IS CALLED AT ")?;
     let mut told: usize = 0;
     let mut last = None;
@@ -73,12 +72,14 @@ fn location<'a>(guess: &'a Guess<'_>, lines: &Lines, index: usize, part: &Part) 
 
 /// Writes the lines of a word of the central processor.
 fn push_central(guess: &Guess<'_>, lines: &mut Lines, index: usize) -> Result<(), AllocError> {
-    let reading = Reading::of(&guess.image, index);
+    let Some(reading) = guess.image.reading(index) else {
+        return Ok(());
+    };
     for slot in &reading.parts {
         let Some(part) = slot else {
             break;
         };
-        push_part(guess, lines, index, part, &reading)?;
+        push_part(guess, lines, index, part, reading)?;
     }
     lines.begun = left_bits(reading.end);
     Ok(())
@@ -112,8 +113,8 @@ fn push_part(
     let at = guess.image.address(index);
     match part.instruction() {
         Some(instruction) => {
-            begin_instruction(lines, field, &instruction)?;
-            push_operands(guess, &instruction, at, lines.text())?;
+            begin_instruction(lines, field, instruction)?;
+            push_operands(guess, instruction, at, lines.text())?;
             lines.is_pending = instruction.is_forcing();
         }
         None => {
@@ -145,11 +146,15 @@ fn push_field(
 ) -> Result<(), AllocError> {
     let digits = part.digits(guess.image.value(index));
     let low = guess.image.low_address(index);
-    if matches!(part.item, Item::Rest) && reading.is_trace() && guess.names.has_label(low) {
+    if matches!(part.item, Item::Rest)
+        && reading.is_trace()
+        && let Some(named) = guess.named(low)
+        && !named.is_outside
+    {
         lines.text().extend_from_slice(b"12/")?;
         push_number(lines.text(), digits >> 18)?;
         lines.text().extend_from_slice(b",18/")?;
-        return lines.text().extend_from_slice(guess.names.name(low));
+        return lines.text().extend_from_slice(&named.name);
     }
     push_decimal(lines.text(), usize::from(part.bits()))?;
     lines.text().push(b'/')?;

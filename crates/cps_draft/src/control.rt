@@ -87,7 +87,7 @@ impl Control<'_, '_> {
                 targets: Targets::new(),
             });
         }
-        executed_word(&Reading::of(&self.image, index), self.image.value(index))
+        executed_word(self.image.reading(index)?, self.image.value(index))
     }
 
     /// Whether execution goes on behind the code that begins at a word.
@@ -270,7 +270,7 @@ fn executed_word(reading: &Reading, word: u64) -> Option<Executed> {
             return None;
         }
         if let Some(instruction) = part.instruction() {
-            targets = targets.with(target_of(&instruction));
+            targets = targets.with(target_of(instruction));
             goes_on = instruction.goes_on();
         }
         if !goes_on {

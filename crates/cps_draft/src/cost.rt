@@ -3,7 +3,7 @@ use super::central::stranger;
 use super::image::{Image, LOW};
 use super::instruction::{Instruction, Role};
 use super::peripheral::peripheral_at;
-use super::reading::{Item, Part, Reading, parcel};
+use super::reading::{Item, Part, parcel};
 
 /// What a word costs as code.
 #[derive(Clone, Copy)]
@@ -99,7 +99,7 @@ impl<'a> Costs<'a> {
                 goes_on: false,
             });
         }
-        let reading = Reading::of(&self.image, index);
+        let reading = self.image.reading(index)?;
         let forced = if reading.end < self.image.parcels(index) {
             2
         } else {
@@ -125,16 +125,16 @@ impl<'a> Costs<'a> {
     }
 
     /// The bits of some parcels behind an instruction, or behind none.
-    fn part_cost(&self, index: usize, part: &Part, before: Option<Instruction>) -> u32 {
+    fn part_cost(&self, index: usize, part: &Part, before: Option<&Instruction>) -> u32 {
         let word = self.image.value(index);
         let bits = u32::from(part.bits());
-        match part.item {
+        match &part.item {
             Item::Instruction(instruction) => {
                 let forced = before.is_some_and(|it| it.is_forcing());
                 let at = self.image.address(index);
                 instruction
                     .cost
-                    .saturating_add(self.address_cost(&instruction, at))
+                    .saturating_add(self.address_cost(instruction, at))
                     .saturating_add(if forced { 12 } else { 0 })
             }
             Item::Stranger if stranger(parcel(word, part.place)).is_empty() => {
@@ -146,7 +146,7 @@ impl<'a> Costs<'a> {
     }
 
     /// The bits of what stands behind an instruction that forces, if it is no instruction.
-    fn rest_cost(&self, part: &Part, rest: u64, before: Option<Instruction>) -> u32 {
+    fn rest_cost(&self, part: &Part, rest: u64, before: Option<&Instruction>) -> u32 {
         let other = u32::from(part.bits()).saturating_add(4);
         let Some(before) = before else {
             return other;
@@ -250,14 +250,15 @@ fn number_cost(word: u64, bits: u32) -> u32 {
     bit_length(word.min(ones.saturating_sub(word))).saturating_add(8)
 }
 
+/// The lowest bit of each digit of a word but the first.
+const LOWEST_BITS: u64 = 0o1111111111111111111;
+
 /// The bits of a word's digits, where most are the one before.
 fn digits_cost(word: u64, digits: u8) -> u32 {
-    let mut cost: u32 = 8;
-    let mut rest = word;
-    for _ in 1..digits {
-        let other = rest >> 3;
-        cost = cost.saturating_add(if (rest ^ other) & 7 == 0 { 1 } else { 4 });
-        rest = other;
-    }
-    cost
+    let changed = word ^ (word >> 3);
+    let changes = (changed | (changed >> 1) | (changed >> 2))
+        & (LOWEST_BITS >> (3 * (20 - u32::from(digits.min(20)))));
+    u32::from(digits)
+        .saturating_add(7)
+        .saturating_add(changes.count_ones().saturating_mul(3))
 }

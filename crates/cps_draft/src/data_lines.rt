@@ -199,11 +199,11 @@ fn push_pointer(guess: &Guess<'_>, lines: &mut Lines, index: usize) -> Result<bo
     let Ok(address) = u32::try_from(word) else {
         return Ok(false);
     };
-    if !guess.names.has(address) {
+    let Some(named) = guess.named(address) else {
         return Ok(false);
-    }
+    };
     lines.begin(guess.name(index), b"CON")?;
-    lines.text().extend_from_slice(guess.names.name(address))?;
+    lines.text().extend_from_slice(&named.name)?;
     lines.begin_comment_at(image, image.address(index))?;
     lines.text().push(b' ')?;
     push_octal(lines.text(), word, image.word_digits())?;
@@ -219,8 +219,10 @@ fn push_number_word(guess: &Guess<'_>, lines: &mut Lines, index: usize) -> Resul
         if push_pointer(guess, lines, index)? {
             return Ok(());
         }
-        if word > 0o777777 && guess.names.has(guess.image.low_address(index)) {
-            return push_low_pointer(guess, lines, index);
+        if word > 0o777777
+            && let Some(named) = guess.named(guess.image.low_address(index))
+        {
+            return push_low_pointer(guess, lines, index, &named.name);
         }
     }
     lines.begin(guess.name(index), b"DATA")?;
@@ -255,7 +257,12 @@ fn push_number_comment(
 }
 
 /// Writes the line of a word whose low 18 bits are an address with a name. VFD begins no word by itself.
-fn push_low_pointer(guess: &Guess<'_>, lines: &mut Lines, index: usize) -> Result<(), AllocError> {
+fn push_low_pointer(
+    guess: &Guess<'_>,
+    lines: &mut Lines,
+    index: usize,
+    low: &[u8],
+) -> Result<(), AllocError> {
     let image = &guess.image;
     let name = guess.name(index);
     let location: &[u8] = if name.is_empty() && lines.begun != 0 {
@@ -267,9 +274,7 @@ fn push_low_pointer(guess: &Guess<'_>, lines: &mut Lines, index: usize) -> Resul
     lines.text().extend_from_slice(b"42/")?;
     push_number(lines.text(), image.value(index) >> 18)?;
     lines.text().extend_from_slice(b",18/")?;
-    lines
-        .text()
-        .extend_from_slice(guess.names.name(image.low_address(index)))?;
+    lines.text().extend_from_slice(low)?;
     lines.begin_comment_at(image, image.address(index))?;
     lines.text().push(b' ')?;
     let characters = image.characters(index);

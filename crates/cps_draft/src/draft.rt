@@ -2,8 +2,9 @@
 use super::drafting::push_draft;
 use super::guess::Guess;
 use super::hints::{Boldness, GivenWord, Knowledge};
-use super::image::Image;
+use super::image::{Image, find_places};
 use super::lines::Lines;
+use super::reading::read_words;
 use cps_expr::Machine;
 use std::alloc::{AllocError, Global};
 
@@ -24,7 +25,18 @@ pub fn make_draft(
     known: Knowledge<'_>,
     boldness: &Boldness,
 ) -> Result<Draft, AllocError> {
-    let image = Image { machine, words };
+    let places = find_places(alloc, words)?;
+    let unread = Image {
+        machine,
+        words,
+        places: &places,
+        readings: &[],
+    };
+    let readings = read_words(alloc, &unread)?;
+    let image = Image {
+        readings: &readings,
+        ..unread
+    };
     let guess = Guess::of(alloc, image, known.hints, boldness)?;
     let mut lines = Lines::new(alloc, known.hints.is_bare);
     push_draft(alloc, &guess, known, boldness, &mut lines)?;

@@ -166,7 +166,11 @@ fn push_gap(guess: &Guess<'_>, first: u32, end: u32, lines: &mut Lines) -> Resul
 
 /// Writes the line that passes some words, with the name of the first.
 fn push_space(guess: &Guess<'_>, at: u32, words: u32, lines: &mut Lines) -> Result<(), AllocError> {
-    lines.begin(guess.names.name(at), b"BSS")?;
+    let name: &[u8] = match guess.named(at) {
+        Some(named) => &named.name,
+        None => b"",
+    };
+    lines.begin(name, b"BSS")?;
     push_number(lines.text(), u64::from(words))?;
     lines.begin_comment_at(&guess.image, at)?;
     lines.begin_word();
@@ -190,8 +194,8 @@ fn push_tail(guess: &Guess<'_>, lines: &mut Lines) -> Result<(), AllocError> {
 fn push_end(guess: &Guess<'_>, hints: &Hints, lines: &mut Lines) -> Result<(), AllocError> {
     lines.begin(b"", b"END")?;
     for entry in &hints.entries {
-        if guess.names.has(*entry) {
-            lines.text().extend_from_slice(guess.names.name(*entry))?;
+        if let Some(named) = guess.named(*entry) {
+            lines.text().extend_from_slice(&named.name)?;
             break;
         }
     }

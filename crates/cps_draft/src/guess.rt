@@ -6,13 +6,13 @@ use super::cost::Costs;
 use super::hints::{Boldness, Hints};
 use super::image::{Image, LOW};
 use super::known_names::KnownNames;
-use super::names::{Names, Naming};
+use super::names::{NamedAddress, Names, Naming};
 use super::path::find_code;
 use super::pointers::{Aims, find_pointers, is_round};
 use super::references::{Reference, Use, find_references};
 use super::starts::find_starts;
 use super::texts::find_texts;
-use super::told::{Told, is_set, no_marks};
+use super::told::{Told, is_set, no_marks, set};
 use std::alloc::{AllocError, Global};
 
 /// What is guessed of the words of an image.
@@ -22,6 +22,8 @@ pub struct Guess<'a> {
     pub told: Told,
     pub coding: Coding,
     pub references: Vec<Reference>,
+    /// The words that are called.
+    called: Vec<bool>,
     pub texts: Vec<bool>,
     pub pointers: Vec<bool>,
     pub names: Names,
@@ -154,6 +156,23 @@ fn push_known(
     Ok(())
 }
 
+/// Marks the words that are called.
+fn called_words(
+    alloc: Global,
+    image: &Image<'_>,
+    references: &[Reference],
+) -> Result<Vec<bool>, AllocError> {
+    let mut called = no_marks(alloc, image)?;
+    for reference in references {
+        if reference.how == Use::Called
+            && let Some(index) = image.index_of(reference.address)
+        {
+            set(&mut called, index);
+        }
+    }
+    Ok(called)
+}
+
 /// What is found of data.
 #[derive(Drop)]
 struct FoundData {
@@ -206,11 +225,7 @@ impl<'a> Guess<'a> {
         let coding = find_coding(alloc, image, hints, &mut told)?;
         let references = find_references(alloc, &image, &coding)?;
         let known = KnownNames::of(alloc, &hints.names)?;
-        let classes = Classes {
-            image,
-            told: &told,
-            coding: &coding,
-        };
+        let classes = Classes::of(image, &told, &coding);
         let found = find_data(alloc, &classes, hints, &known, &references)?;
         let FoundData {
             texts,
@@ -224,11 +239,13 @@ impl<'a> Guess<'a> {
             known: &known,
         };
         let names = naming.names(alloc, addresses, &told)?;
+        let called = called_words(alloc, &image, &references)?;
         Ok(Guess {
             image,
             told,
             coding,
             references,
+            called,
             texts,
             pointers,
             names,
@@ -242,7 +259,12 @@ impl<'a> Guess<'a> {
 
     /// Whether a word can stand behind others in one line of data: it is free and has no name.
     pub fn is_unbroken(&self, index: usize) -> bool {
-        self.is_free(index) && !self.names.has(self.image.address(index))
+        self.is_free(index) && self.names.of_word(index).is_none()
+    }
+
+    /// Whether a word is called.
+    pub fn is_called(&self, index: usize) -> bool {
+        is_set(&self.called, index)
     }
 
     /// Whether a word is text.
@@ -257,7 +279,15 @@ impl<'a> Guess<'a> {
 
     /// The name of a word; empty where it has none.
     pub fn name(&self, index: usize) -> &[u8] {
-        self.names.name(self.image.address(index))
+        match self.names.of_word(index) {
+            Some(named) => &named.name,
+            None => b"",
+        }
+    }
+
+    /// The named address, if an address has a name.
+    pub fn named(&self, address: u32) -> Option<&NamedAddress> {
+        self.names.find(&self.image, address)
     }
 
     /// Nothing is guessed: each word is a plain number.
@@ -272,6 +302,7 @@ impl<'a> Guess<'a> {
             told: Told::of(alloc, &image, hints, boldness)?,
             coding: Coding::new(alloc, &image)?,
             references: Vec::new(alloc),
+            called: no_marks(alloc, &image)?,
             texts: no_marks(alloc, &image)?,
             pointers: no_marks(alloc, &image)?,
             names: Names::none(alloc),

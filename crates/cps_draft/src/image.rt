@@ -1,7 +1,9 @@
 //! The words that an octal text gives.
 use super::characters::Characters;
 use super::hints::GivenWord;
+use super::reading::Reading;
 use cps_expr::Machine;
+use std::alloc::{AllocError, Global};
 
 /// The most words of a gap that a BSS passes. ORG passes a longer one.
 pub const MOST_GAP: u32 = 4096;
@@ -17,6 +19,21 @@ const ALL_BITS: u64 = (1 << 60) - 1;
 pub struct Image<'a> {
     pub machine: Machine,
     pub words: &'a [GivenWord],
+    /// For each address, from that of the first word on, the index of the word there.
+    pub places: &'a [Option<u32>],
+    /// The instructions of each word of the central processor.
+    pub readings: &'a [Reading],
+}
+
+/// For each address, from that of the first word to that of the last, the index of the word there.
+pub fn find_places(alloc: Global, words: &[GivenWord]) -> Result<Vec<Option<u32>>, AllocError> {
+    let mut places = Vec::new(alloc);
+    let first = words.first().map_or(0, |word| word.address);
+    for (index, word) in words.iter().enumerate() {
+        places.resize(word.address.saturating_sub(first) as usize, None)?;
+        places.push(u32::try_from(index).ok())?;
+    }
+    Ok(places)
 }
 
 impl Image<'_> {
@@ -41,9 +58,12 @@ impl Image<'_> {
 
     /// The index of the word at an address.
     pub fn index_of(&self, address: u32) -> Option<usize> {
-        self.words
-            .binary_search_by_key(&address, |word| word.address)
-            .ok()
+        let first = self.words.first()?.address;
+        let place = address.checked_sub(first)? as usize;
+        match self.places.get(place) {
+            Some(Some(index)) => Some(*index as usize),
+            _ => None,
+        }
     }
 
     /// How many words stand in front of an address.
@@ -160,6 +180,11 @@ impl Image<'_> {
     /// The number that is in the low 18 bits of a word.
     pub fn low_address(&self, index: usize) -> u32 {
         (self.value(index) & 0o777777) as u32
+    }
+
+    /// The instructions of a word of the central processor.
+    pub fn reading(&self, index: usize) -> Option<&Reading> {
+        self.readings.get(index)
     }
 
     /// The characters of a word.

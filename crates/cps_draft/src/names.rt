@@ -20,6 +20,8 @@ pub struct NamedAddress {
 #[derive(Drop)]
 pub struct Names {
     list: Vec<NamedAddress>,
+    /// For each word of the image the index of its name in the list.
+    of_words: Vec<Option<u32>>,
 }
 
 /// What is known of addresses that get names.
@@ -106,7 +108,25 @@ impl Naming<'_, '_> {
                 is_outside: !self.image.has_label(*address),
             })?;
         }
-        Ok(Names { list })
+        let of_words = self.words_names(alloc, &list)?;
+        Ok(Names { list, of_words })
+    }
+
+    /// For each word the index of its name in a list.
+    fn words_names(
+        &self,
+        alloc: Global,
+        list: &[NamedAddress],
+    ) -> Result<Vec<Option<u32>>, AllocError> {
+        let mut of_words = vec![in alloc; None; self.image.words.len()]?;
+        for (at, named) in list.iter().enumerate() {
+            if let Some(index) = self.image.index_of(named.address)
+                && let Some(of_word) = of_words.get_mut(index)
+            {
+                *of_word = u32::try_from(at).ok();
+            }
+        }
+        Ok(of_words)
     }
 }
 
@@ -114,33 +134,32 @@ impl Names {
     pub fn none(alloc: Global) -> Names {
         Names {
             list: Vec::new(alloc),
+            of_words: Vec::new(alloc),
         }
     }
 
-    /// The named address, if an address has a name.
-    pub fn find(&self, address: u32) -> Option<&NamedAddress> {
+    /// The named address, if an address of an image has a name.
+    pub fn find(&self, image: &Image<'_>, address: u32) -> Option<&NamedAddress> {
+        match image.index_of(address) {
+            Some(index) => self.of_word(index),
+            None => self.find_other(address),
+        }
+    }
+
+    /// The address of a word, if that has a name.
+    pub fn of_word(&self, index: usize) -> Option<&NamedAddress> {
+        match self.of_words.get(index) {
+            Some(Some(at)) => self.list.get(*at as usize),
+            _ => None,
+        }
+    }
+
+    fn find_other(&self, address: u32) -> Option<&NamedAddress> {
         let index = self
             .list
             .binary_search_by_key(&address, |named| named.address)
             .ok()?;
         self.list.get(index)
-    }
-
-    /// The name of an address; empty where it has none.
-    pub fn name(&self, address: u32) -> &[u8] {
-        match self.find(address) {
-            Some(named) => &named.name,
-            None => b"",
-        }
-    }
-
-    /// Whether an address has a name that a line of the text has as its label.
-    pub fn has_label(&self, address: u32) -> bool {
-        self.find(address).is_some_and(|named| !named.is_outside)
-    }
-
-    pub fn has(&self, address: u32) -> bool {
-        self.find(address).is_some()
     }
 
     /// All of them, by their addresses.

@@ -20,6 +20,10 @@ pub fn push_word(text: &mut Vec<u8>, word: u64, digits: u8) -> Result<(), AllocE
 
 /// Appends a number in decimal.
 pub fn push_decimal(text: &mut Vec<u8>, number: usize) -> Result<(), AllocError> {
+    if number < 10 {
+        text.push(b'0' + (number % 10) as u8)?;
+        return Ok(());
+    }
     let mut rest = number;
     let mut digits = [b'0'; 20];
     let mut first = 19;

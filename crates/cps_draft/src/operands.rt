@@ -2,6 +2,7 @@
 use super::guess::Guess;
 use super::image::LOW;
 use super::instruction::{Instruction, Role};
+use super::names::NamedAddress;
 use super::number::{push_decimal, push_number};
 use std::alloc::AllocError;
 
@@ -31,9 +32,9 @@ fn push_address(
     at: u32,
     text: &mut Vec<u8>,
 ) -> Result<(), AllocError> {
-    if is_named(guess, instruction, address) {
+    if let Some(named) = name_in(guess, instruction, address) {
         push_joint(instruction, text)?;
-        return text.extend_from_slice(guess.names.name(address));
+        return text.extend_from_slice(&named.name);
     }
     let is_short = !guess.image.is_central() && instruction.size == 1;
     match instruction.role {
@@ -73,19 +74,24 @@ fn push_joint(instruction: &Instruction, text: &mut Vec<u8>) -> Result<(), Alloc
     Ok(())
 }
 
-/// Whether the address of an instruction is shown by its name.
-fn is_named(guess: &Guess<'_>, instruction: &Instruction, address: u32) -> bool {
-    if instruction.is_displaced() || !guess.names.has(address) {
-        return false;
+/// The named address of an instruction, if it is shown by its name.
+fn name_in<'a>(
+    guess: &'a Guess<'_>,
+    instruction: &Instruction,
+    address: u32,
+) -> Option<&'a NamedAddress> {
+    if instruction.is_displaced() {
+        return None;
     }
-    let is_inside = guess.names.has_label(address);
+    let named = guess.named(address)?;
     let is_low = address < LOW && instruction.is_beside;
-    match instruction.role {
+    let is_shown = match instruction.role {
         Role::Jump => true,
-        Role::Cell => !is_low && (is_inside || !instruction.is_beside),
-        Role::Value => !is_low && is_inside,
+        Role::Cell => !is_low && (!named.is_outside || !instruction.is_beside),
+        Role::Value => !is_low && !named.is_outside,
         _ => false,
-    }
+    };
+    if is_shown { Some(named) } else { None }
 }
 
 /// Appends a place so many words ahead, or behind if the number is of more than 31 bits.

@@ -82,22 +82,10 @@ impl Ways {
 
     /// The cheapest way to the step's end, behind these ways.
     fn best_before(&self, step: &Step) -> Option<Way> {
-        let mut best = None;
-        for kind in [Kind::Nothing, Kind::Number, Kind::Falling, Kind::Stopping] {
-            let Some(before) = self.get(kind) else {
-                continue;
-            };
-            let way = Way {
-                bits: before
-                    .bits
-                    .saturating_add(step.bits)
-                    .saturating_add(change_cost(kind, step.kind)),
-                before: kind,
-                size: step.size,
-            };
-            best = cheaper(best, Some(way));
-        }
-        best
+        let best = step.behind(Kind::Nothing, self.nothing, None);
+        let best = step.behind(Kind::Number, self.number, best);
+        let best = step.behind(Kind::Falling, self.falling, best);
+        step.behind(Kind::Stopping, self.stopping, best)
     }
 
     /// These ways, and a step behind others.
@@ -136,6 +124,24 @@ impl Ways {
             }
         }
         last
+    }
+}
+
+impl Step {
+    /// The cheaper one of the best way to the step's end so far, and of the way that ends with the step behind one more kind.
+    fn behind(&self, kind: Kind, before: Option<Way>, best: Option<Way>) -> Option<Way> {
+        let Some(before) = before else {
+            return best;
+        };
+        let way = Way {
+            bits: before
+                .bits
+                .saturating_add(self.bits)
+                .saturating_add(change_cost(kind, self.kind)),
+            before: kind,
+            size: self.size,
+        };
+        cheaper(best, Some(way))
     }
 }
 

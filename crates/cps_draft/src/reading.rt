@@ -1,7 +1,8 @@
 //! The instructions of a word of the central processor.
 use super::central::{central_instruction, stranger};
 use super::image::{Image, LOW};
-use super::instruction::Instruction;
+use super::instruction::{Flow, Instruction};
+use std::alloc::{AllocError, Global};
 
 /// What some parcels are.
 #[derive(Clone, Copy)]
@@ -29,6 +30,18 @@ pub struct Reading {
     pub parts: [Option<Part>; 4],
     /// How many parcels they have. A forcing leaves the others.
     pub end: usize,
+}
+
+/// The instructions of each word of an image of the central processor; those of a peripheral one's aren't read.
+pub fn read_words(alloc: Global, image: &Image<'_>) -> Result<Vec<Reading>, AllocError> {
+    if !image.is_central() {
+        return Ok(Vec::new(alloc));
+    }
+    let mut readings = Vec::with_capacity(alloc, image.words.len())?;
+    for index in 0..image.words.len() {
+        readings.push(Reading::of(image, index))?;
+    }
+    Ok(readings)
 }
 
 /// The parcel of a word at a place below 4.
@@ -109,8 +122,8 @@ impl ReadWord {
     }
 
     /// Whether instructions stand behind one that forces: all decode, they aren't zero, and they are no trace.
-    fn goes_on(&self, place: usize, forcing: &Instruction) -> bool {
-        if forcing.is_return_jump() && place == 2 && self.is_trace {
+    fn goes_on(&self, place: usize, forcing: Flow) -> bool {
+        if forcing == Flow::Call && place == 2 && self.is_trace {
             return false;
         }
         (place..self.known).any(|at| self.parcel(at) != 0) && self.all_decode(place)
@@ -146,11 +159,11 @@ fn filled_parcels(word: u64, known: usize) -> usize {
 
 impl Reading {
     /// The parts of a word of the central processor.
-    pub fn of(image: &Image<'_>, index: usize) -> Reading {
+    fn of(image: &Image<'_>, index: usize) -> Reading {
         let mut read = ReadWord::of(image, index);
         let mut parts = [None; 4];
         let mut place = 0;
-        let mut forcing: Option<Instruction> = None;
+        let mut forcing = None;
         for slot in 0..4 {
             if place >= read.end {
                 break;
@@ -158,8 +171,8 @@ impl Reading {
             let part = next_part(&read, place, forcing);
             place = place.saturating_add(part.size);
             read.end = read.end.max(place);
-            parts[slot] = Some(part);
             forcing = part.forcing();
+            parts[slot] = Some(part);
         }
         Reading {
             parts,
@@ -167,11 +180,10 @@ impl Reading {
         }
     }
 
-    /// The part at a number, and whether it is the last.
-    pub fn part(&self, number: usize) -> Option<Part> {
+    fn part(&self, number: usize) -> Option<&Part> {
         match self.parts.get(number) {
-            Some(part) => *part,
-            None => None,
+            Some(Some(part)) => Some(part),
+            _ => None,
         }
     }
 
@@ -180,18 +192,15 @@ impl Reading {
         let (Some(first), Some(second), None) = (self.part(0), self.part(1), self.part(2)) else {
             return false;
         };
-        let is_call = match first.item {
-            Item::Instruction(instruction) => instruction.is_return_jump(),
-            _ => false,
-        };
+        let is_call = first.instruction().is_some_and(|it| it.is_return_jump());
         is_call && second.size == 2 && matches!(second.item, Item::Rest)
     }
 }
 
 /// What begins at a place, behind an instruction that forces, or behind none.
-fn next_part(read: &ReadWord, place: usize, forcing: Option<Instruction>) -> Part {
+fn next_part(read: &ReadWord, place: usize, forcing: Option<Flow>) -> Part {
     if let Some(forcing) = forcing
-        && !read.goes_on(place, &forcing)
+        && !read.goes_on(place, forcing)
     {
         return Part {
             place,
@@ -204,18 +213,18 @@ fn next_part(read: &ReadWord, place: usize, forcing: Option<Instruction>) -> Par
 
 impl Part {
     /// The instruction, if it is one.
-    pub fn instruction(&self) -> Option<Instruction> {
-        match self.item {
+    pub fn instruction(&self) -> Option<&Instruction> {
+        match &self.item {
             Item::Instruction(instruction) => Some(instruction),
             _ => None,
         }
     }
 
-    /// The instruction, if it forces what is behind it to the next word.
-    fn forcing(&self) -> Option<Instruction> {
+    /// Where execution goes on behind an instruction that forces what is behind it to the next word.
+    fn forcing(&self) -> Option<Flow> {
         let instruction = self.instruction()?;
         if instruction.is_forcing() {
-            Some(instruction)
+            Some(instruction.flow)
         } else {
             None
         }

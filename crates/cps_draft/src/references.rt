@@ -3,7 +3,6 @@ use super::coding::Coding;
 use super::image::{Image, LOW};
 use super::instruction::{Flow, Instruction, Role};
 use super::peripheral::peripheral_at;
-use super::reading::Reading;
 use std::alloc::{AllocError, Global};
 
 /// How an address is used, the most telling use first.
@@ -67,13 +66,15 @@ fn push_references(
         }
         return Ok(());
     }
-    let reading = Reading::of(image, index);
+    let Some(reading) = image.reading(index) else {
+        return Ok(());
+    };
     for slot in &reading.parts {
         let Some(part) = slot else {
             break;
         };
         if let Some(instruction) = part.instruction() {
-            push_reference(&instruction, from, found)?;
+            push_reference(instruction, from, found)?;
         }
     }
     let address = image.low_address(index);
