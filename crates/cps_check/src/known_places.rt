@@ -1,5 +1,6 @@
 //! In which lines stands what words speak of.
 
+use crate::notes::{Note, Remark};
 use cps_cause::{Card, Origin, Places, line_of_opener, opener_of};
 use cps_final::LineSymbols;
 use cps_state::{Hashing, Key, Phase, Put, Trace, control_of};
@@ -101,6 +102,31 @@ impl<'a> KnownPlaces<'a> {
         })
     }
 
+    /// Those of the notes of the line of this number that other lines bear out. What stands behind the end of the program is noted once.
+    pub fn borne_out(
+        &mut self,
+        alloc: Global,
+        number: u32,
+        notes: &[Note],
+    ) -> Result<Vec<Note>, AllocError> {
+        let mut told = Vec::new(alloc);
+        for note in notes {
+            if self.bears_out(number, note.remark) {
+                told.push(*note)?;
+            }
+        }
+        Ok(told)
+    }
+
+    fn bears_out(&mut self, number: u32, remark: Remark) -> bool {
+        match remark {
+            Remark::BehindEnd => self.takes_end(),
+            Remark::NoEnd => self.lacks_end,
+            Remark::Unread(name) => self.is_unread_of(name, number),
+            _ => true,
+        }
+    }
+
     /// Whether the line of this number is the first that gives the symbol a value, and no line reads it.
     pub fn is_unread_of(&self, name: Name, number: u32) -> bool {
         match self.symbols.get(&name) {
@@ -109,13 +135,8 @@ impl<'a> KnownPlaces<'a> {
         }
     }
 
-    /// Whether no line of the source ends the program, and nothing is open at its end.
-    pub fn lacks_end(&self) -> bool {
-        self.lacks_end
-    }
-
     /// Whether the program has ended, once: asked again, it says no.
-    pub fn takes_end(&mut self) -> bool {
+    fn takes_end(&mut self) -> bool {
         let takes = self.end.is_some() && !self.is_end_taken;
         self.is_end_taken = self.end.is_some();
         takes
@@ -148,12 +169,16 @@ impl<'a> KnownPlaces<'a> {
 /// The symbol that END names, where execution begins.
 fn start_named(cards: &[Line], traces: &[Trace]) -> Option<Name> {
     let end = traces.iter().position(|trace| ends_program(trace))?;
-    let card = Card::of(cards.get(end)?.bytes());
-    Name::read(first_operand(card.tail()))
+    start_of(cards.get(end)?.bytes())
+}
+
+/// The symbol that a line names, if it ends the program: where execution begins.
+pub fn start_of(line: &[u8]) -> Option<Name> {
+    Name::read(first_operand(Card::of(line).tail()))
 }
 
 /// Whether a line that does this ends the program.
-fn ends_program(trace: &Trace) -> bool {
+pub fn ends_program(trace: &Trace) -> bool {
     for put in trace.puts() {
         if let Key::Control = put.key {
             if control_of(Some(&put.answer)).phase == Phase::AfterEnd {

@@ -63,6 +63,7 @@ mod told_line;
 pub use check_options::CheckOptions;
 pub use checking::check;
 pub use fault::CheckFault;
-pub use known_places::KnownPlaces;
+pub use known_places::{KnownPlaces, ends_program, start_of};
 pub use laws::a_check_agrees_with_batch;
 pub use manual::manual_text;
+pub use notes::{Note, Remark, notes_within, stands_behind_end};

@@ -7,7 +7,7 @@ ghost use Rattle.cps_check.specs.Code.Adding.{AddsEnd};
 ghost use Rattle.cps_check.specs.Code.Telling.{TellsLine, TellsLines};
 
 use crate::known_places::KnownPlaces;
-use crate::notes::{Note, find_notes};
+use crate::notes::{Note, notes_within};
 use crate::told_line::ToldLine;
 use cps_cause::{Card, Diagnostic, LinesAbove, Origin, explain, explain_end, opener_of};
 use cps_expr::Radix;
@@ -107,7 +107,8 @@ impl LineTelling<'_> {
         if self.errors_only {
             return Ok(Vec::new(self.alloc));
         }
-        find_notes(self.alloc, line, places)
+        let notes = notes_within(self.alloc, line.line, line.trace)?;
+        places.borne_out(self.alloc, line.number, &notes)
     }
 
     /// Appends what is told where a source ends for which these cards stand, in the line that opened what is open there, and gives whether something is.

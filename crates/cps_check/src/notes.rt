@@ -2,8 +2,6 @@
 ghost use Rattle.std.specs.Prelude.{◌<◌, length, IfOk};
 ghost use Rattle.cps_cause.specs.Sentence.{IsSentence};
 
-use crate::known_places::KnownPlaces;
-use crate::line_telling::CheckedLine;
 use cps_cause::{Card, Columns, Wording, filled_len};
 use cps_code::is_builtin;
 use cps_expr::Operation;
@@ -18,7 +16,7 @@ const CALL: &[u8] = b"*CALL";
 const STATEMENT_COLUMNS: usize = 72;
 
 /// What a note says.
-#[derive(Clone, Copy)]
+#[derive(Clone, Copy, PartialEq, Eq)]
 pub enum Remark {
     /// The line begins with `*CALL`.
     Call,
@@ -37,7 +35,7 @@ pub enum Remark {
 }
 
 /// A note, and where it shows in its line.
-#[derive(Clone, Copy)]
+#[derive(Clone, Copy, PartialEq, Eq)]
 pub struct Note {
     pub columns: Columns,
     pub remark: Remark,
@@ -76,21 +74,18 @@ impl Remark {
     }
 }
 
-/// The notes of a line, by column. What stands behind the end of the program is noted once.
-pub fn find_notes(
-    alloc: Global,
-    line: &CheckedLine<'_>,
-    places: &mut KnownPlaces<'_>,
-) -> Result<Vec<Note>, AllocError> {
+/// The notes that a line may have that does this, by column. Those of the end of the program, of one without an end and of what nothing reads are told only
+/// where other lines bear them out.
+pub fn notes_within(alloc: Global, line: &[u8], trace: &Trace) -> Result<Vec<Note>, AllocError> {
     let mut notes = Vec::new(alloc);
-    let card = Card::of(line.line);
-    push_some(&mut notes, find_call(line.line))?;
-    push_some(&mut notes, find_behind_end(&card, places))?;
-    push_some(&mut notes, find_no_end(line, &card, places))?;
-    push_some(&mut notes, find_unread(line.number, &card, places))?;
-    push_some(&mut notes, find_far_operands(line, &card)?)?;
-    push_some(&mut notes, find_parted_operands(line, &card))?;
-    push_some(&mut notes, find_cut_operands(line, &card))?;
+    let card = Card::of(line);
+    push_some(&mut notes, find_call(line))?;
+    push_some(&mut notes, find_behind_end(&card, trace))?;
+    push_some(&mut notes, find_no_end(&card, trace))?;
+    push_some(&mut notes, find_unread(&card, trace))?;
+    push_some(&mut notes, find_far_operands(&card, trace)?)?;
+    push_some(&mut notes, find_parted_operands(&card, trace))?;
+    push_some(&mut notes, find_cut_operands(&card, trace))?;
     Ok(notes)
 }
 
@@ -121,12 +116,12 @@ fn find_call(line: &[u8]) -> Option<Note> {
     }
 }
 
-/// The first line that is no comment behind the end of the program.
-fn find_behind_end(card: &Card<'_>, places: &mut KnownPlaces<'_>) -> Option<Note> {
+/// A line that is no comment behind the end of the program.
+fn find_behind_end(card: &Card<'_>, trace: &Trace) -> Option<Note> {
     if let Fields::Comment = card.fields {
         return None;
     }
-    if !places.takes_end() {
+    if !stands_behind_end(trace) {
         return None;
     }
     Some(Note {
@@ -135,9 +130,19 @@ fn find_behind_end(card: &Card<'_>, places: &mut KnownPlaces<'_>) -> Option<Note
     })
 }
 
-/// An IDENT that names the program, where nothing ends that and nothing is open at the source's end.
-fn find_no_end(line: &CheckedLine<'_>, card: &Card<'_>, places: &KnownPlaces<'_>) -> Option<Note> {
-    if !places.lacks_end() || !is_ident(card) || !names_program(line.trace) {
+/// Whether the program had ended in front of a line that did this.
+pub fn stands_behind_end(trace: &Trace) -> bool {
+    for asked in trace.asks() {
+        if let (Key::Control, Some(Answer::Control(control, _))) = (asked.key, &asked.answer) {
+            return control.phase == Phase::AfterEnd;
+        }
+    }
+    false
+}
+
+/// An IDENT that names the program.
+fn find_no_end(card: &Card<'_>, trace: &Trace) -> Option<Note> {
+    if !is_ident(card) || !names_program(trace) {
         return None;
     }
     Some(Note {
@@ -166,11 +171,11 @@ fn names_program(trace: &Trace) -> bool {
     false
 }
 
-/// A location field with a symbol that the line is the first to define, and that no line reads.
-fn find_unread(number: u32, card: &Card<'_>, places: &KnownPlaces<'_>) -> Option<Note> {
+/// A location field with a symbol that the line is the first to define.
+fn find_unread(card: &Card<'_>, trace: &Trace) -> Option<Note> {
     let columns = card.location?;
     let name = Name::read(columns.of(card.text))?;
-    if !places.is_unread_of(name, number) {
+    if !is_first_of(name, trace) {
         return None;
     }
     Some(Note {
@@ -179,15 +184,27 @@ fn find_unread(number: u32, card: &Card<'_>, places: &KnownPlaces<'_>) -> Option
     })
 }
 
+/// Whether a line that did this gave a symbol its first value.
+fn is_first_of(name: Name, trace: &Trace) -> bool {
+    if !trace.puts().iter().any(|put| is_symbol(put.key, name)) {
+        return false;
+    }
+    !trace.asks().iter().any(|asked| asked.answer.is_some() && is_symbol(asked.key, name))
+}
+
+fn is_symbol(key: Key, name: Name) -> bool {
+    key == Key::Label(name) || key == Key::Setting(name)
+}
+
 /// Text in column 30 or later of a statement that is assembled, may have operands, and has none.
-fn find_far_operands(line: &CheckedLine<'_>, card: &Card<'_>) -> Result<Option<Note>, AllocError> {
+fn find_far_operands(card: &Card<'_>, trace: &Trace) -> Result<Option<Note>, AllocError> {
     let Fields::Statement(fields) = card.fields else {
         return Ok(None);
     };
     if !fields.variable.is_empty() || fields.comment.is_empty() {
         return Ok(None);
     }
-    if !may_have_operands(fields.operation, line.trace.asks())? {
+    if !may_have_operands(fields.operation, trace.asks())? {
         return Ok(None);
     }
     let before = card.before_tail.saturating_sub(fields.comment.len());
@@ -198,7 +215,7 @@ fn find_far_operands(line: &CheckedLine<'_>, card: &Card<'_>) -> Result<Option<N
 }
 
 /// An operator and one element, a register or a number that stand one blank behind the operands of a statement that is assembled.
-fn find_parted_operands(line: &CheckedLine<'_>, card: &Card<'_>) -> Option<Note> {
+fn find_parted_operands(card: &Card<'_>, trace: &Trace) -> Option<Note> {
     let Fields::Statement(fields) = card.fields else {
         return None;
     };
@@ -209,7 +226,7 @@ fn find_parted_operands(line: &CheckedLine<'_>, card: &Card<'_>) -> Option<Note>
     }
     if !(goes_on(parted) || is_operand(parted))
         || !has_values(fields.operation)
-        || !is_assembled(line.trace.asks())
+        || !is_assembled(trace.asks())
     {
         return None;
     }
@@ -274,20 +291,20 @@ fn is_listing(operation: &[u8]) -> bool {
 }
 
 /// Operands that end in column 72 of a statement that is assembled, before a character that isn't read.
-fn find_cut_operands(line: &CheckedLine<'_>, card: &Card<'_>) -> Option<Note> {
+fn find_cut_operands(card: &Card<'_>, trace: &Trace) -> Option<Note> {
     let Fields::Statement(fields) = card.fields else {
         return None;
     };
     if fields.variable.is_empty() || !fields.comment.is_empty() {
         return None;
     }
-    let [.., last, behind] = line.line.get(..STATEMENT_COLUMNS + 1)? else {
+    let [.., last, behind] = card.text.get(..STATEMENT_COLUMNS + 1)? else {
         return None;
     };
     if *last == b' ' || *behind == b' ' || is_listing(fields.operation) {
         return None;
     }
-    if !is_assembled(line.trace.asks()) {
+    if !is_assembled(trace.asks()) {
         return None;
     }
     Some(Note {
