@@ -162,7 +162,7 @@ class Shown:
         if not any(row[:8].strip() for row in self.rows[number]):
             return []
         if self.reports is None:
-            self.reports = self.texts.reports(self.source)
+            self.reports, _ = self.texts.reports(self.source)
         told = [(letter, message.split("\n")[0]) for line, _, letter, message, _ in self.reports if line == number]
         rows = [row for row, _ in itertools.groupby(f"{letter}: {cause}" for letter, cause in told if not cause.startswith(END))]
         return rows[:MOST_CAUSES] + ([".."] if len(rows) > MOST_CAUSES else [])

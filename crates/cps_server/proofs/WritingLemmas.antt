@@ -3,6 +3,7 @@ use Rattle.std.proofs.Common.{rules, ◌≡◌, refl, ap, subst, sym, ◌∙◌,
 use Rattle.std.specs.Prelude.{IfSome, codes, decimal, length, nat_lt, slice_get, slice_index_or, take, unwrap_or, Result, Ok, Err, OnOk, is_ok, if◌then◌else◌}
 use Rattle.std.proofs.lemmas.Bool.Decides.{nat_tests}
 use Rattle.std.proofs.lemmas.List.{append-nil, drop-map, length-drop, length-map, length-take, take-map, take-take}
+use Rattle.std.proofs.lemmas.List.Elements.{All-append, All-nil}
 use Rattle.json.specs.Print.{escape_byte}
 use Rattle.serde_json.specs.Data.{Data, Members, member, number, object, string, unsigned}
 use Rattle.serde_json.specs.Find.{of_integer}
@@ -23,10 +24,11 @@ use Rattle.cps_server.specs.Symbols.{line_of}
 use Rattle.cps_server.specs.declared.diagnostic.Relation.{Relation}
 use Rattle.cps_server.specs.declared.diagnostic.Stretch.{Stretch}
 use Rattle.cps_server.specs.declared.idle_lines.IdleLines.{IdleLines}
+use Rattle.cps_server.specs.declared.note_form.NoteForm.{NoteForm}
 use Rattle.cps_server.specs.declared.queried_text.QueriedText.{QueriedText}
-use Rattle.cps_server.specs.Diagnostics.{IsRelation, Listener, MayRelate, TellsIdle, TellsMark, TellsMarks, diagnostic, letter_name, more_message, most_told, published, range_among, relation, report, tags, told_of_more, with_relation}
+use Rattle.cps_server.specs.Diagnostics.{IsRelation, Listener, MayRelate, TellsBeside, TellsIdle, TellsMark, TellsMarks, diagnostic, letter_name, more_message, most_told, note_severity, published, range_among, relation, report, tags, told_of_more, with_relation}
 use Rattle.cps_server.specs.Code.Listing.{ListsMarks}
-use Rattle.cps_server.specs.Code.Writing.{AddsAllIdle, AddsIdle, AddsMark, AddsMarks, IsIdleAmong, IsOther, ListsText, columns_stretch, counted_text, diagnostic_text, document_text, idle_text, information_text, list_text, listener_of, message_text, more_text, position_text, published_text, range_text, relation_json, relation_text, stretch_json, tags_text, version_text, written_report}
+use Rattle.cps_server.specs.Code.Writing.{AddsAllBeside, AddsBeside, AddsIdle, AddsMark, AddsMarks, AddsNote, IsIdleAmong, IsOther, ListsText, columns_stretch, counted_text, diagnostic_text, document_text, form_for, idle_text, information_text, list_text, listener_of, message_text, more_text, note_text, position_text, published_text, range_text, relation_json, relation_text, stretch_for, stretch_json, tags_text, version_text, written_report}
 
 -- ---- a diagnostic
 
@@ -134,6 +136,10 @@ information-written at message = ap (λ rest. codes "{" ++ rest) (report-written
 
 idle-written : (at : Stretch) (message : List ℕ) → compact_text (object (report 4 (stretch_json at) message None true)) ≡ idle_text at message
 idle-written at message = ap (λ rest. codes "{" ++ rest) (report-written 4 at message None true)
+
+note-written : (form : NoteForm) (at : Stretch) (message : List ℕ)
+    → compact_text (object (report (note_severity form.is_unread) (stretch_json at) message None form.is_tagged)) ≡ note_text form at message
+note-written form at message = ap (λ rest. codes "{" ++ rest) (report-written (note_severity form.is_unread) at message None form.is_tagged)
 
 -- where a mark of this line shows
 abbrev pub stretch_of : Encoding → List ℕ → made.Mark → Stretch
@@ -267,6 +273,38 @@ idle-behind later json told rest first all list mid new comma added is =
     ∙ append_assoc list (comma_if later) (compact_text json ++ items_text true (items_of rest))
     ∙ is ∙ ap (λ ds. all ++ items_text first (items_of ds)) (sym (append_assoc told (json ∷ []) rest))
 
+-- ---- notes
+
+pub note-added : (deck : QueriedText) (line first last : ℕ) (is_unread : Bool) (form : NoteForm) (stretch : Stretch) (message text old new : List ℕ)
+    → line < length (source_of_text deck.document.now) → form ≡ form_for deck is_unread → stretch ≡ stretch_for deck line first last
+    → text ≡ note_text form stretch message → new ≡ old ++ text → AddsNote (listener_of deck) deck.document.now old new
+note-added deck line first last is_unread form stretch message text old new within formed shows tells added = (
+  object (report (note_severity is_unread) (stretch_json (stretch_for deck line first last)) message None (form_for deck is_unread).is_tagged),
+  record {
+    line = line;
+    first = first;
+    last = last;
+    is_unread = is_unread;
+    message = message;
+    within = within;
+    is = refl;
+  },
+  added ∙ ap (λ t. old ++ t) (tells ∙ (λ i. note_text (formed i) (shows i) message) ∙ sym (note-written (form_for deck is_unread) (stretch_for deck line first last) message)),
+)
+
+-- ---- what is told beside marks
+
+pub none-beside : (to : Listener) (text : List ℕ) (later : Bool) (old : List ℕ) → AddsBeside to text later later old old
+none-beside to text later old = ([], All-nil (TellsBeside to text), λ more. refl)
+
+pub beside-both : (to : Listener) (text : List ℕ) (later now end : Bool) (a b d : List ℕ) → AddsBeside to text later now a b → AddsBeside to text now end b d
+    → AddsAllBeside to text later a d
+beside-both to text later now end a b d one two = (
+  one.0 ++ two.0,
+  All-append (TellsBeside to text) one.0 two.0 one.1 two.1,
+  two.2 [] ∙ (λ i. b ++ items_text now (items_of (append-nil two.0 i))) ∙ one.2 two.0,
+)
+
 -- ---- the first of some marks
 
 drop-fewer : {X : Type 0} (n : ℕ) (xs : List X) → drop n (take (suc n) xs) ≡ take 1 (drop n xs)
@@ -278,7 +316,7 @@ pub list-made : (to : Listener) (text : List ℕ) (marks : FirstMarks) (first le
     (later : Bool) → ListsMarks text marks → first ≡ take most_told marks.first.items → left ≡ drop most_told marks.first.items
     → count ≡ marks.count - most_told → later ≡ nat_lt 0 (length first)
     → list ≡ codes "[" → AddsMarks to (source_lines text) (map place_of first) list mid
-    → behind ≡ mid ++ counted_text to.encoding (source_lines text) (map place_of left) count → AddsAllIdle to text later behind idle
+    → behind ≡ mid ++ counted_text to.encoding (source_lines text) (map place_of left) count → AddsAllBeside to text later behind idle
     → new ≡ idle ++ codes "]" → ListsText to text new
 list-made to text marks first left count list mid behind idle new later lists is_first is_left counts is_later opened adds more_added adds_idle ended = (
   adds.0 ++ (told ++ adds_idle.0),
@@ -287,8 +325,8 @@ list-made to text marks first left count list mid behind idle new later lists is
     of_text = lists.1;
     first = adds.0;
     each = subst (λ ms. TellsMarks to lines ms adds.0) front adds.1;
-    idle = adds_idle.0;
-    each_idle = adds_idle.1;
+    beside = adds_idle.0;
+    each_beside = adds_idle.1;
     all = refl;
   },
   ended ∙ adds_idle.2 ∙ ap (λ text. text ++ items_text later (items_of adds_idle.0)) (more_added ∙ ap (λ text. mid ++ text) more)

@@ -1,6 +1,6 @@
--- What an editor is told of a text: a diagnostic for each mark, up to 1,000, and of lines that nothing assembles. From the Language Server Protocol 3.17; the
+-- What an editor is told of a text: a diagnostic for each mark, up to 1,000, of lines that nothing assembles, and of notes. From the Language Server Protocol 3.17; the
 -- limit is our own.
-use Rattle.std.specs.Prelude.{◌≡◌, ℕ, ℤ, ◌<◌, ◌≤◌, Bool, true, false, List, [], ◌∷◌, ◌++◌, length, take, drop, Option, Some, None, ⊤, codes, decimal, slice_index_or}
+use Rattle.std.specs.Prelude.{◌≡◌, ℕ, ℤ, ◌<◌, ◌≤◌, ◌⊎◌, ◌&&◌, Bool, true, false, List, [], ◌∷◌, ◌++◌, length, take, drop, Option, Some, None, ⊤, codes, decimal, slice_index_or}
 use Rattle.std.specs.List.{All, AllZip}
 use Rattle.serde_json.specs.Data.{Data, unsigned, number, string, array, object, Members, no_members, member}
 use Rattle.serde_json.specs.Find.{of_integer}
@@ -121,6 +121,28 @@ pub record TellsIdle (to : Listener) (text : List ℕ) (json : Data) : Type 0 wh
   pub within : last < length (source_of_text text)
   pub is : json ≡ object (report 4 (range_between first 0 last (told_units to.encoding (line_of text last) place)) message None true)
 
+-- ---- notes
+
+-- that nothing reads a symbol is a hint, and another note is information
+abbrev pub note_severity : Bool → ℕ
+note_severity false = 3
+note_severity true = 4
+
+-- a note of columns of a line of a text; which lines have notes, where, and what these say, is free
+pub record TellsNote (to : Listener) (text : List ℕ) (json : Data) : Type 0 where
+  pub line : ℕ
+  pub first : ℕ
+  pub last : ℕ
+  pub is_unread : Bool
+  pub message : List ℕ
+  pub within : line < length (source_of_text text)
+  pub is : json ≡ object (report (note_severity is_unread) (columns_range to.encoding (line_of text line) line first last) message None
+      (is_unread && to.client.takes_unnecessary))
+
+-- what is told beside marks
+abbrev pub TellsBeside : Listener → List ℕ → Data → Type 0
+TellsBeside to text json = TellsIdle to text json ⊎ TellsNote to text json
+
 -- ---- a text
 
 -- a list of diagnostics, told of the document of a URI, and of this version if it is known
@@ -132,12 +154,12 @@ told_of uri (Some version) list =
 abbrev pub published : List ℕ → Option ℤ → List Data → Data
 published uri version told = notification (codes "textDocument/publishDiagnostics") (told_of uri version (array (items_of told)))
 
--- the marks of a text are told: the first 1,000 one by one, and how many more there are; beside them only lines that nothing assembles
+-- the marks of a text are told: the first 1,000 one by one, and how many more there are; beside them only lines that nothing assembles, and notes
 pub record TellsText (to : Listener) (text : List ℕ) (told : List Data) : Type 0 where
   pub marks : List Mark
   pub of_text : Marks text marks
   pub first : List Data
   pub each : TellsMarks to (source_lines text) (take most_told marks) first
-  pub idle : List Data
-  pub each_idle : All (TellsIdle to text) idle
-  pub all : told ≡ first ++ (told_of_more to.encoding (source_lines text) (drop most_told marks) ++ idle)
+  pub beside : List Data
+  pub each_beside : All (TellsBeside to text) beside
+  pub all : told ≡ first ++ (told_of_more to.encoding (source_lines text) (drop most_told marks) ++ beside)

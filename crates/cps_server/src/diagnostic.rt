@@ -2,9 +2,10 @@
 ghost use Rattle.std.specs.Prelude.{◌≡◌, ◌++◌, OnOk};
 ghost use Rattle.cps_server.specs.declared.mark_kind.MarkKind.TheVariants.{Flag, Wrong};
 ghost use Rattle.cps_server.specs.Diagnostics as diagnostics;
-ghost use Rattle.cps_server.specs.Code.Writing.{columns_stretch, diagnostic_text, idle_text, information_text, message_text, position_text, range_text, relation_text, report_text, tags_text};
+ghost use Rattle.cps_server.specs.Code.Writing.{columns_stretch, diagnostic_text, idle_text, information_text, message_text, note_text, position_text, range_text, relation_text, report_text, tags_text};
 
 use crate::mark_kind::MarkKind;
+use crate::note_form::NoteForm;
 use crate::writing::push_string;
 use cps_cause::{Columns, Letter};
 use cps_list::push_decimal;
@@ -137,6 +138,26 @@ pub fn push_unnecessary(
     };
     text.extend_from_slice(b"{")?;
     push_report(alloc, text, HINT, report, true)
+}
+
+/// Appends the diagnostic of a note.
+pub fn push_note(
+    alloc: Global,
+    text: &mut Vec<u8>,
+    form: NoteForm,
+    stretch: Stretch,
+    message: &str,
+) -> Result<(), AllocError>
+    ensures { OnOk result (text.new.items ≡ text.old.items ++ note_text form stretch message.now) }
+{
+    let report = Report {
+        stretch,
+        message,
+        relation: None,
+    };
+    let severity = if form.is_unread { HINT } else { INFORMATION };
+    text.extend_from_slice(b"{")?;
+    push_report(alloc, text, severity, report, form.is_tagged)
 }
 
 /// Appends what all diagnostics have, and their end.

@@ -7,24 +7,24 @@ ghost use Rattle.cps_server.specs.Marks.{place_of};
 ghost use Rattle.cps_server.specs.Diagnostics.{more_message, published};
 ghost use Rattle.cps_server.specs.Frames.{frame_of_json};
 ghost use Rattle.cps_server.specs.Document.{source_of_text};
-ghost use Rattle.cps_server.specs.Code.Writing.{AddsAllIdle, AddsIdle, AddsMark, AddsMarks, IsIdleAmong, IsOther, ListsText, counted_text, document_text, listener_of, published_text};
+ghost use Rattle.cps_server.specs.Code.Writing.{AddsBeside, AddsIdle, IsIdleAmong, IsOther, ListsText, MarkAdded, MarksAdded, counted_text, document_text, listener_of, published_text};
 
 use crate::diagnostic::{
     Relation, Report, Stretch, push_diagnostic, push_information, push_unnecessary,
 };
 use crate::first_marks::MOST_TOLD;
-use crate::idle_lines::{IdleLines, idle_lines_of};
+use crate::idle_lines::{IdleLines, runs_among};
 use crate::lead::Lead;
 use crate::leads::lines_led_to;
-use crate::line_marks::LineMarks;
 use crate::mark::Mark;
 use crate::marked_document::MarkedDocument;
 use crate::marking::marks_of;
 use crate::mentions::line_of;
 use crate::queried_text::QueriedText;
+use crate::told_notes::push_all_notes;
 use crate::writing::{push_comma, push_string, push_version};
 use cps_cause::filled_len;
-use cps_list::push_decimal;
+use cps_list::{View, push_decimal};
 use cps_rpc::{Client, Encoding, push_frame, units_before};
 use std::alloc::{AllocError, Global};
 use std::str;
@@ -57,7 +57,7 @@ struct LedMark<'a> {
 // ---- the list
 
 /// The diagnostics of a document's text, as JSON with no blank in it: of its first 1,000 marks, one that tells how many more there are, and, where the editor
-/// takes these, of the first 1,000 runs of lines that nothing assembles.
+/// takes these, of the first 1,000 runs of lines that nothing assembles; and of the first 100 notes.
 pub fn list_of(
     alloc: Global,
     encoding: Encoding,
@@ -85,7 +85,14 @@ pub fn list_of(
         count: marks.count.saturating_sub(MOST_TOLD),
     };
     push_more(alloc, deck, left, &mut list)?;
-    push_all_idle(alloc, deck, marked.marks(), !first.is_empty(), &mut list)?;
+    let later = push_all_idle(
+        alloc,
+        deck,
+        marked.notes().runs(),
+        !first.is_empty(),
+        &mut list,
+    )?;
+    push_all_notes(alloc, deck, marked.notes(), later, &mut list)?;
     list.push(b']')?;
     Ok(list)
 }
@@ -97,7 +104,7 @@ fn push_marks(
     marks: &[Mark],
     list: &mut Vec<u8>,
 ) -> Result<(), AllocError>
-    ensures { OnOk result (AddsMarks (listener_of deck.entry) (source_lines deck.entry.document.now) (map place_of marks.now) list.old.items list.new.items) }
+    ensures { OnOk result (MarksAdded deck.entry (map place_of marks.now) list.old.items list.new.items) }
 {
     let leads = lines_led_to(alloc, deck.document, marks)?;
     for (at, mark) in marks.iter().enumerate() {
@@ -123,7 +130,7 @@ fn push_mark(
     led: LedMark<'_>,
     list: &mut Vec<u8>,
 ) -> Result<(), AllocError>
-    ensures { OnOk result (AddsMark (listener_of deck.entry) (source_lines deck.entry.document.now) (place_of led.entry.mark.now) list.old.items list.new.items) }
+    ensures { OnOk result (MarkAdded deck.entry (place_of led.entry.mark.now) list.old.items list.new.items) }
 {
     let Some(line) = line_written(deck, led) else {
         return push_led(alloc, deck, led, text_of(&led.mark.message), list);
@@ -140,7 +147,7 @@ fn push_led(
     message: &str,
     list: &mut Vec<u8>,
 ) -> Result<(), AllocError>
-    ensures { OnOk result (AddsMark (listener_of deck.entry) (source_lines deck.entry.document.now) (place_of led.entry.mark.now) list.old.items list.new.items) }
+    ensures { OnOk result (MarkAdded deck.entry (place_of led.entry.mark.now) list.old.items list.new.items) }
 {
     let mark = led.mark;
     let line = line_of(deck.document, mark.line);
@@ -209,21 +216,22 @@ fn push_more(
     push_information(alloc, list, stretch, &message)
 }
 
-/// Appends to a list the diagnostics of lines that nothing assembles, by what is kept of each line, if the editor takes these. Others may stand before.
+/// Appends to a list the diagnostics of runs of lines that nothing assembles, if the editor takes these. Others may stand before, and whether they do
+/// behind that is given.
 fn push_all_idle(
     alloc: Global,
     deck: QueriedText<'_>,
-    kept: &[LineMarks],
+    found: &[IdleLines],
     later: bool,
     list: &mut Vec<u8>,
-) -> Result<(), AllocError>
-    requires { length kept.now ≡ length (source_of_text deck.document.now) }
-    ensures { OnOk result (AddsAllIdle (listener_of deck.entry) deck.entry.document.now later list.old.items list.new.items) }
+) -> Result<bool, AllocError>
+    ensures { IfOk result (λ now. AddsBeside (listener_of deck.entry) deck.entry.document.now later now list.old.items list.new.items) }
 {
     if !deck.client.takes_unnecessary {
-        return Ok(());
+        return Ok(later);
     }
-    let runs = idle_lines_of(alloc, kept)?;
+    let count = deck.document.session().count() as usize;
+    let runs = runs_among(alloc, found, count)?;
     push_runs(alloc, deck, &runs, later, list)
 }
 
@@ -234,10 +242,10 @@ fn push_runs(
     runs: &[IdleLines],
     later: bool,
     list: &mut Vec<u8>,
-) -> Result<(), AllocError>
+) -> Result<bool, AllocError>
     requires takes { deck.client.takes_unnecessary ≡ true }
     requires within { All (IsIdleAmong (length (source_of_text deck.document.now))) runs.now }
-    ensures { OnOk result (AddsAllIdle (listener_of deck.entry) deck.entry.document.now later list.old.items list.new.items) }
+    ensures { IfOk result (λ now. AddsBeside (listener_of deck.entry) deck.entry.document.now later now list.old.items list.new.items) }
 {
     let mut later = later;
     for lines in runs {
@@ -245,7 +253,7 @@ fn push_runs(
         push_idle(alloc, deck, *lines, list)?;
         later = true;
     }
-    Ok(())
+    Ok(later)
 }
 
 /// Appends the diagnostic of lines that nothing assembles.

@@ -2,7 +2,8 @@
 
 use crate::lead::mode_before;
 use cps_cause::Card;
-use cps_state::{Answer, Key, Mode, Phase, Trace};
+use cps_check::stands_behind_end;
+use cps_state::{Mode, Trace};
 use cps_text::Fields;
 use std::alloc::AllocError;
 
@@ -33,14 +34,4 @@ impl Idle {
             _ => Ok(Idle::Never),
         }
     }
-}
-
-/// Whether the program had ended in front of a line that did this.
-fn stands_behind_end(trace: &Trace) -> bool {
-    for asked in trace.asks() {
-        if let (Key::Control, Some(Answer::Control(control, _))) = (asked.key, &asked.answer) {
-            return control.phase == Phase::AfterEnd;
-        }
-    }
-    false
 }

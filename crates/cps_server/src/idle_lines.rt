@@ -1,10 +1,10 @@
 //! Runs of lines that nothing assembles.
-ghost use Rattle.std.specs.Prelude.{All, IsTrue, length, IfOk};
+ghost use Rattle.std.specs.Prelude.{All, IsTrue, IfOk};
 ghost use Rattle.cps_server.specs.Code.Writing.{IsIdleAmong};
 
 use crate::first_marks::MOST_TOLD;
 use crate::idle::Idle;
-use crate::line_marks::LineMarks;
+use crate::noted_line::NotedLine;
 use std::alloc::{AllocError, Global};
 
 /// Lines that nothing assembles, from 0, from the first through the last.
@@ -25,14 +25,17 @@ impl IdleLines {
     }
 }
 
-/// The first 1,000 runs of lines that nothing assembles, by what is kept of each line.
-pub fn idle_lines_of(alloc: Global, kept: &[LineMarks]) -> Result<Vec<IdleLines>, AllocError>
-    ensures { IfOk result (λ runs. All (IsIdleAmong (length kept.now)) runs.items) }
+/// Those of runs that are among so many lines.
+pub fn runs_among(
+    alloc: Global,
+    found: &[IdleLines],
+    count: usize,
+) -> Result<Vec<IdleLines>, AllocError>
+    ensures { IfOk result (λ runs. All (IsIdleAmong count) runs.items) }
 {
-    let found = find_runs(alloc, kept)?;
     let mut runs = Vec::new(alloc);
-    for lines in &found {
-        if stands(*lines, kept.len()) {
+    for lines in found {
+        if stands(*lines, count) {
             runs.push(*lines)?;
         }
     }
@@ -45,12 +48,12 @@ fn stands(lines: IdleLines, count: usize) -> bool
     lines.first <= lines.last && (lines.last as usize) < count
 }
 
-/// The first 1,000 runs. A comment belongs to a run if lines of it follow.
-fn find_runs(alloc: Global, kept: &[LineMarks]) -> Result<Vec<IdleLines>, AllocError> {
+/// The first 1,000 runs of lines that nothing assembles. A comment belongs to a run if lines of it follow.
+pub fn find_runs(alloc: Global, lines: &[NotedLine]) -> Result<Vec<IdleLines>, AllocError> {
     let mut runs = Vec::new(alloc);
     let mut open: Option<IdleLines> = None;
     let mut number: u32 = 0;
-    for line in kept {
+    for line in lines {
         if may_turn(line.idle, open.is_some()) {
             open = goes_on(&mut runs, open, number, line.idle)?;
         }

@@ -25,6 +25,7 @@
 //! - `idle.rt`: lines that nothing assembles
 //! - `idle_lines.rt`: runs of lines that nothing assembles
 //! - `introducing.rt`: what a server tells of itself
+//! - `kept_notes.rt`: the notes of a source, kept line by line
 //! - `lead.rt`: where else a mark leads
 //! - `leads.rt`: the lines to which marks lead
 //! - `line_mark.rt`: a mark of a line
@@ -49,6 +50,8 @@
 //! - `named_words.rt`: the words of lines that write names
 //! - `names.rt`: names that lines define or read
 //! - `nearest.rt`: names that are near to a word
+//! - `note_form.rt`: in which form a note is told
+//! - `noted_line.rt`: what a line has to do with notes
 //! - `notice.rt`: the notifications that a server hears
 //! - `offers.rt`: words that are offered
 //! - `open_texts.rt`: the texts that are open
@@ -61,6 +64,7 @@
 //! - `queried_text.rt`: a text that an editor asks about
 //! - `query.rt`: what an editor may ask
 //! - `ranges.rt`: positions and ranges, as they are told
+//! - `readers.rt`: how many lines read symbols
 //! - `rename_wish.rt`: what a request to rename asks
 //! - `renaming.rt`: the edits that call a name otherwise
 //! - `request_method.rt`: the requests that a server answers
@@ -76,6 +80,7 @@
 //! - `token.rt`: a word of a line, as it is told
 //! - `token_data.rt`: tokens as numbers, five for each
 //! - `tokens.rt`: what the words of a text are, as they are told
+//! - `told_notes.rt`: how an editor is told the notes of a text
 //! - `touched_lines.rt`: which lines of a source a change touched
 //! - `why.rt`: why a line is flagged
 //! - `word_locations.rt`: the lines on which the symbol that a word writes stands
@@ -108,6 +113,7 @@ mod hovering;
 mod idle;
 mod idle_lines;
 mod introducing;
+mod kept_notes;
 mod lead;
 mod leads;
 mod line_mark;
@@ -132,6 +138,8 @@ mod name_places;
 mod named_words;
 mod names;
 mod nearest;
+mod note_form;
+mod noted_line;
 mod notice;
 mod offers;
 mod open_texts;
@@ -144,6 +152,7 @@ mod parting;
 mod queried_text;
 mod query;
 mod ranges;
+mod readers;
 mod rename_wish;
 mod renaming;
 mod request_method;
@@ -159,6 +168,7 @@ mod text_edit;
 mod token;
 mod token_data;
 mod tokens;
+mod told_notes;
 mod touched_lines;
 mod why;
 mod word_locations;

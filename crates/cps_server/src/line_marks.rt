@@ -4,11 +4,9 @@ ghost use Rattle.cps_server.specs.Document.{source_of_text};
 ghost use Rattle.cps_server.specs.Code.Keeping.{KeepsLine, Shows, ShowsFlags, ShowsMarks, fault_shown, flag_shown};
 
 use crate::document::Document;
-use crate::idle::Idle;
 use crate::lead::{FlaggedLine, Lead};
 use crate::line_mark::LineMark;
 use crate::mark_kind::MarkKind;
-use crate::mentions::line_of;
 use cps_cause::{Columns, Diagnostic, Letter, LinesAbove, explain};
 use cps_input::{CharacterFault, faults_of};
 use cps_list::View;
@@ -17,13 +15,12 @@ use std::alloc::{AllocError, Global};
 /// The marks of a line.
 pub struct LineMarks {
     pub marks: Vec<LineMark>,
-    pub idle: Idle,
 }
 
 // Written out, as that of a mark.
 impl Drop for LineMarks {
     fn drop(self) {
-        let LineMarks { marks, idle: _ } = self;
+        let LineMarks { marks } = self;
         drop(marks);
     }
 }
@@ -37,8 +34,7 @@ impl LineMarks {
         let number = place as u32;
         let mut marks = Vec::new(alloc);
         push_marks(alloc, document, number, &mut marks)?;
-        let idle = idle_at(document, number)?;
-        Ok(LineMarks { marks, idle })
+        Ok(LineMarks { marks })
     }
 
     /// Whether words of these marks may be other ones where lines come or go elsewhere. They may tell what others define; those of flag E the number of a line
@@ -54,14 +50,6 @@ impl LineMarks {
             }
         }
         false
-    }
-}
-
-/// Whether something assembles a line of a document, from 0.
-fn idle_at(document: &Document, number: u32) -> Result<Idle, AllocError> {
-    match document.session().traces().get(number as usize) {
-        Some(trace) => Idle::of(line_of(document, number), trace),
-        None => Ok(Idle::Never),
     }
 }
 

@@ -6,6 +6,7 @@ ghost use Rattle.cps_server.specs.Document.{source_of_text};
 ghost use Rattle.cps_server.specs.Code.Keeping.{AreKept, AreKeptBut, AreLeft, IsRenewed, KeepsFrom};
 
 use crate::document::Document;
+use crate::kept_notes::KeptNotes;
 use crate::line_marks::LineMarks;
 use crate::touched_lines::TouchedLines;
 use cps_rpc::{Encoding, Range};
@@ -13,12 +14,13 @@ use cps_state::Hashing;
 use std::alloc::{AllocError, Global};
 use std::marker::Model;
 
-/// A document that an editor has open, with the marks of each line of its source. A change makes those anew that it may have changed.
+/// A document that an editor has open, with the marks of each line of its source, and its notes. A change makes those anew that it may have changed.
 pub struct MarkedDocument {
     alloc: Global,
     document: Document,
     /// Those of each line of the source, in their order.
     kept: Vec<LineMarks>,
+    notes: KeptNotes,
 }
 
 // Written out, as that of the document.
@@ -28,9 +30,11 @@ impl Drop for MarkedDocument {
             alloc: _,
             document,
             kept,
+            notes,
         } = self;
         drop(document);
         drop(kept);
+        drop(notes);
     }
 }
 
@@ -68,17 +72,21 @@ impl MarkedDocument {
             alloc,
             document,
             kept,
+            mut notes,
         } = self;
         let (document, touched) = document.change(encoding, range, new)?;
         let Some(touched) = touched else {
             drop(kept);
+            drop(notes);
             return MarkedDocument::of(alloc, document);
         };
+        notes.change(&document, &touched)?;
         let kept = renewed(alloc, &document, kept, touched)?;
         Ok(MarkedDocument {
             alloc,
             document,
             kept,
+            notes,
         })
     }
 
@@ -96,16 +104,23 @@ impl MarkedDocument {
         &self.kept
     }
 
+    /// Its notes, and its lines that nothing assembles.
+    pub fn notes(&self) -> &KeptNotes {
+        &self.notes
+    }
+
     /// A document, with all its marks.
     fn of(alloc: Global, document: Document) -> Result<MarkedDocument, AllocError>
         ensures { IfOk result (λ marked. marked ≡ document) }
     {
         let count = document.session().count() as usize;
         let kept = marks_between(alloc, &document, 0, count)?;
+        let notes = KeptNotes::of(alloc, &document)?;
         Ok(MarkedDocument {
             alloc,
             document,
             kept,
+            notes,
         })
     }
 }

@@ -1,5 +1,5 @@
 -- For the code, not part of what a reader believes: diagnostics as they are written.
-use Rattle.std.specs.Prelude.{◌≡◌, ℕ, ℤ, ◌-◌, ◌≤◌, ◌<◌, Bool, true, false, nat_lt, List, [], ◌∷◌, ◌++◌, All, length, Option, Some, None, codes, decimal}
+use Rattle.std.specs.Prelude.{◌≡◌, ℕ, ℤ, ◌-◌, ◌≤◌, ◌<◌, ◌&&◌, Bool, true, false, nat_lt, List, [], ◌∷◌, ◌++◌, All, length, Option, Some, None, codes, decimal}
 use Rattle.serde_json.specs.Data.{Data, number, string, array, object}
 use Rattle.serde_json.specs.Find.{of_integer}
 use Rattle.serde_json.specs.View.{items_of}
@@ -12,8 +12,9 @@ use Rattle.cps_server.specs.declared.diagnostic.Relation.{Relation}
 use Rattle.cps_server.specs.declared.diagnostic.Report.{Report}
 use Rattle.cps_server.specs.declared.diagnostic.Stretch.{Stretch}
 use Rattle.cps_server.specs.declared.idle_lines.IdleLines.{IdleLines}
+use Rattle.cps_server.specs.declared.note_form.NoteForm.{NoteForm}
 use Rattle.cps_server.specs.declared.queried_text.QueriedText.{QueriedText}
-use Rattle.cps_server.specs.Diagnostics.{Listener, TellsIdle, TellsMark, TellsMarks, TellsText, letter_name, more_message, range_among, relation, report, told_of_more}
+use Rattle.cps_server.specs.Diagnostics.{Listener, TellsBeside, TellsIdle, TellsMark, TellsMarks, TellsNote, TellsText, letter_name, more_message, note_severity, range_among, relation, report, told_of_more}
 use Rattle.cps_server.specs.Ranges.{location, range_between, told_units}
 use Rattle.cps_server.specs.Symbols.{line_of}
 use Rattle.cps_rpc.specs.Lines.{source_lines}
@@ -63,6 +64,10 @@ information_text at message = codes "{" ++ written_report 3 at message None fals
 abbrev pub idle_text : Stretch → List ℕ → List ℕ
 idle_text at message = codes "{" ++ written_report 4 at message None true
 
+-- a note
+abbrev pub note_text : NoteForm → Stretch → List ℕ → List ℕ
+note_text form at message = codes "{" ++ written_report (note_severity form.is_unread) at message None form.is_tagged
+
 -- ---- another place
 
 -- columns of a line, from the first through the last
@@ -107,6 +112,13 @@ AddsMarks to lines marks old new =
     (told : List Data) × TellsMarks to lines marks told
     × ((more : List Data) → new ++ items_text (nat_lt 0 (length marks)) (items_of more) ≡ old ++ items_text false (items_of (told ++ more)))
 
+-- the same in a deck
+abbrev pub MarkAdded : QueriedText → Mark → List ℕ → List ℕ → Type 0
+MarkAdded deck mark old new = AddsMark (listener_of deck) (source_lines deck.document.now) mark old new
+
+abbrev pub MarksAdded : QueriedText → List Mark → List ℕ → List ℕ → Type 0
+MarksAdded deck marks old new = AddsMarks (listener_of deck) (source_lines deck.document.now) marks old new
+
 -- the diagnostics that are told of marks that are left out, behind others
 abbrev pub behind_text : List Data → List ℕ
 behind_text [] = []
@@ -130,10 +142,28 @@ pub record IsIdleAmong (count : ℕ) (lines : IdleLines) : Type 0 where
 abbrev pub AddsIdle : Listener → List ℕ → List ℕ → List ℕ → Type 0
 AddsIdle to text old new = (json : Data) × TellsIdle to text json × (new ≡ old ++ compact_text json)
 
--- those of several are, behind others or not, and behind them more may come
-abbrev pub AddsAllIdle : Listener → List ℕ → Bool → List ℕ → List ℕ → Type 0
-AddsAllIdle to text later old new =
-    (told : List Data) × All (TellsIdle to text) told × (new ++ codes "]" ≡ old ++ items_text later (items_of told))
+-- in which form an editor of a deck is told a note
+abbrev pub form_for : QueriedText → Bool → NoteForm
+form_for deck is_unread = record { is_unread = is_unread; is_tagged = is_unread && deck.client.takes_unnecessary }
+
+-- where columns of a line of a deck show
+abbrev pub stretch_for : QueriedText → ℕ → ℕ → ℕ → Stretch
+stretch_for deck line first last = columns_stretch deck.encoding (line_of deck.document.now line) line first last
+
+-- the diagnostic of a note is added to a text
+abbrev pub AddsNote : Listener → List ℕ → List ℕ → List ℕ → Type 0
+AddsNote to text old new = (json : Data) × TellsNote to text json × (new ≡ old ++ compact_text json)
+
+-- diagnostics beside those of marks are, behind others if it is later; behind them more may come, and it is later now or not
+abbrev pub AddsBeside : Listener → List ℕ → Bool → Bool → List ℕ → List ℕ → Type 0
+AddsBeside to text later now old new =
+    (told : List Data) × All (TellsBeside to text) told
+    × ((more : List Data) → new ++ items_text now (items_of more) ≡ old ++ items_text later (items_of (told ++ more)))
+
+-- all of them are
+abbrev pub AddsAllBeside : Listener → List ℕ → Bool → List ℕ → List ℕ → Type 0
+AddsAllBeside to text later old new =
+    (told : List Data) × All (TellsBeside to text) told × (new ++ codes "]" ≡ old ++ items_text later (items_of told))
 
 -- a list of diagnostics as JSON, with no blank in it
 abbrev pub list_text : List Data → List ℕ

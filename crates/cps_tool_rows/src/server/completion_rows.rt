@@ -53,7 +53,7 @@ const COMPLETE: Inquiry = Inquiry {
 const REMARKS: Inquiry = Inquiry {
     begins: BY_UTF16,
     lines: LETTERS,
-    told: "[]",
+    told: r#"[{"message":"nothing reads ONE1","range":{"end":{"character":4,"line":3},"start":{"character":0,"line":3}},"severity":4,"source":"compass"}]"#,
     questions: &[
         (
             "completion",
@@ -245,7 +245,7 @@ const POINTED: &[&str] = &["F.STATUS  EQU    1", "          SX1    X1+f.STATU", 
 
 /// What is told of it: no line defines F.STATU.
 const POINTED_TOLD: &str =
-    r#"[{"code":"U","message":"no line gives F.STATU a value; it counts as 0","range":{"end":{"character":27,"line":1},"start":{"character":20,"line":1}},"severity":1,"source":"compass"}]"#;
+    r#"[{"code":"U","message":"no line gives F.STATU a value; it counts as 0","range":{"end":{"character":27,"line":1},"start":{"character":20,"line":1}},"severity":1,"source":"compass"},{"message":"nothing reads F.STATUS","range":{"end":{"character":8,"line":0},"start":{"character":0,"line":0}},"severity":4,"source":"compass"}]"#;
 
 /// A place of a text, the word that is offered first there, and the range in the place of which that is.
 const PLACES: [(Inquiry, &str, &str); 6] = [

@@ -87,7 +87,7 @@ const LABELLED: Inquiry = Inquiry {
         "AT        TWICE  7",
         "          PS",
     ],
-    told: "[]",
+    told: r#"[{"message":"nothing reads AT","range":{"end":{"character":2,"line":4},"start":{"character":0,"line":4}},"severity":4,"source":"compass"}]"#,
     questions: &[(
         "inlayHint",
         r#","range":{"start":{"line":0,"character":0},"end":{"line":5,"character":12}}"#,

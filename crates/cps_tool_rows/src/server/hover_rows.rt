@@ -88,7 +88,7 @@ const WORDS: Inquiry = Inquiry {
 const COMMENT: Inquiry = Inquiry {
     begins: BY_UTF16,
     lines: LETTERS,
-    told: "[]",
+    told: r#"[{"message":"nothing reads ONE1","range":{"end":{"character":4,"line":3},"start":{"character":0,"line":3}},"severity":4,"source":"compass"}]"#,
     questions: &[
         // before the asterisk
         (

@@ -20,7 +20,7 @@ const PROGRAM: Inquiry = Inquiry {
 const SMALL: Inquiry = Inquiry {
     begins: BY_UTF16,
     lines: LETTERS,
-    told: "[]",
+    told: r#"[{"message":"nothing reads ONE1","range":{"end":{"character":4,"line":3},"start":{"character":0,"line":3}},"severity":4,"source":"compass"}]"#,
     questions: &[(
         "documentSymbol",
         "",
@@ -52,7 +52,7 @@ const GENERATED: Inquiry = Inquiry {
         "          W      1",
         "AT        W      2",
     ],
-    told: "[]",
+    told: r#"[{"message":"nothing reads AT","range":{"end":{"character":2,"line":6},"start":{"character":0,"line":6}},"severity":4,"source":"compass"}]"#,
     questions: &[(
         "documentSymbol",
         "",
@@ -104,7 +104,7 @@ const HEADINGS: Inquiry = Inquiry {
         "***  Read, and write",
         "**",
     ],
-    told: "[]",
+    told: r#"[{"message":"nothing reads ONE","range":{"end":{"character":3,"line":1},"start":{"character":0,"line":1}},"severity":4,"source":"compass"}]"#,
     questions: &[(
         "documentSymbol",
         "",

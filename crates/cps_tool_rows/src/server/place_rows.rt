@@ -93,7 +93,7 @@ const LABELS: Inquiry = Inquiry {
 const WHOLE: Inquiry = Inquiry {
     begins: BY_UTF16,
     lines: LETTERS,
-    told: "[]",
+    told: r#"[{"message":"nothing reads ONE1","range":{"end":{"character":4,"line":3},"start":{"character":0,"line":3}},"severity":4,"source":"compass"}]"#,
     questions: &[
         (
             "definition",

@@ -10,12 +10,16 @@ const OPEN_A: &str =
 const OPEN_B: &str =
     r#"{"jsonrpc":"2.0","method":"textDocument/didOpen","params":{"textDocument":{"uri":"b\"\u00e9","languageId":"compass","text":"*\nL         EQU    2"}}}"#;
 
-/// No diagnostics.
+/// Nothing reads L.
 const TOLD_A: &str =
+    r#"{"jsonrpc":"2.0","method":"textDocument/publishDiagnostics","params":{"diagnostics":[{"message":"nothing reads L","range":{"end":{"character":1,"line":0},"start":{"character":0,"line":0}},"severity":4,"source":"compass"}],"uri":"a"}}"#;
+
+/// Nothing: that text is closed, or a line reads L.
+const NOTHING_TOLD_A: &str =
     r#"{"jsonrpc":"2.0","method":"textDocument/publishDiagnostics","params":{"diagnostics":[],"uri":"a"}}"#;
 
 const TOLD_B: &str =
-    "{\"jsonrpc\":\"2.0\",\"method\":\"textDocument/publishDiagnostics\",\"params\":{\"diagnostics\":[],\"uri\":\"b\\\"\u{E9}\"}}";
+    "{\"jsonrpc\":\"2.0\",\"method\":\"textDocument/publishDiagnostics\",\"params\":{\"diagnostics\":[{\"message\":\"nothing reads L\",\"range\":{\"end\":{\"character\":1,\"line\":1},\"start\":{\"character\":0,\"line\":1}},\"severity\":4,\"source\":\"compass\"}],\"uri\":\"b\\\"\u{E9}\"}}";
 
 /// The requests about the first one.
 const HOVER: &str =
@@ -105,7 +109,7 @@ const REFUSALS: [ConversationRow; 4] = [
             UTF16,
             TOLD_A,
             TOLD_B,
-            TOLD_A,
+            NOTHING_TOLD_A,
             r#"{"error":{"code":-32602,"message":"Invalid params"},"id":11,"jsonrpc":"2.0"}"#,
             r#"{"error":{"code":-32602,"message":"Invalid params"},"id":12,"jsonrpc":"2.0"}"#,
             r#"{"error":{"code":-32602,"message":"Invalid params"},"id":13,"jsonrpc":"2.0"}"#,
@@ -210,7 +214,7 @@ const STATES: [ConversationRow; 2] = [
             TOLD_A,
             r#"{"id":11,"jsonrpc":"2.0","result":{"contents":{"kind":"plaintext","value":"L        00000000000000000000 1\n         000000 00000000000000000001      1 L         CON    1\n"},"range":{"end":{"character":1,"line":0},"start":{"character":0,"line":0}}}}"#,
             r#"{"id":15,"jsonrpc":"2.0","result":[{"label":"000000 00000000000000000001","paddingLeft":true,"position":{"character":18,"line":0}}]}"#,
-            TOLD_A,
+            NOTHING_TOLD_A,
             r#"{"id":11,"jsonrpc":"2.0","result":{"contents":{"kind":"plaintext","value":"         000000 00000000000000000001      1           CON    L\n"}}}"#,
             r#"{"id":15,"jsonrpc":"2.0","result":[{"label":"000000 00000000000000000001","paddingLeft":true,"position":{"character":18,"line":0}},{"label":"000001 00000000000000000001","paddingLeft":true,"position":{"character":26,"line":1}}]}"#,
             r#"{"id":13,"jsonrpc":"2.0","result":[]}"#,

@@ -16,7 +16,7 @@ const MACROS: Inquiry = Inquiry {
         "          V",
         "*         W      1",
     ],
-    told: "[]",
+    told: r#"[{"message":"nothing reads L","range":{"end":{"character":1,"line":2},"start":{"character":0,"line":2}},"severity":4,"source":"compass"}]"#,
     questions: &[
         // at the operation, and behind the blanks that follow it
         (

@@ -88,7 +88,7 @@ const CONVERSATIONS: [ConversationRow; 10] = [
             UTF16,
             "{\"jsonrpc\":\"2.0\",\"method\":\"textDocument/publishDiagnostics\",\"params\":{\"diagnostics\":[{\"code\":\"U\",\"message\":\"no line gives Q a value; it counts as 0\",\"range\":{\"end\":{\"character\":19,\"line\":0},\"start\":{\"character\":18,\"line\":0}},\"severity\":1,\"source\":\"compass\"}],\"uri\":\"a\"}}",
             "{\"jsonrpc\":\"2.0\",\"method\":\"textDocument/publishDiagnostics\",\"params\":{\"diagnostics\":[{\"code\":\"U\",\"message\":\"Q has values by SET alone, and none above; it counts as 0\",\"range\":{\"end\":{\"character\":19,\"line\":0},\"start\":{\"character\":18,\"line\":0}},\"severity\":1,\"source\":\"compass\"}],\"uri\":\"a\"}}",
-            "{\"jsonrpc\":\"2.0\",\"method\":\"textDocument/publishDiagnostics\",\"params\":{\"diagnostics\":[{\"code\":\"U\",\"message\":\"no line gives Q a value; it counts as 0\",\"range\":{\"end\":{\"character\":19,\"line\":0},\"start\":{\"character\":18,\"line\":0}},\"severity\":1,\"source\":\"compass\"}],\"uri\":\"a\"}}",
+            "{\"jsonrpc\":\"2.0\",\"method\":\"textDocument/publishDiagnostics\",\"params\":{\"diagnostics\":[{\"code\":\"U\",\"message\":\"no line gives Q a value; it counts as 0\",\"range\":{\"end\":{\"character\":19,\"line\":0},\"start\":{\"character\":18,\"line\":0}},\"severity\":1,\"source\":\"compass\"},{\"message\":\"nothing reads R\",\"range\":{\"end\":{\"character\":1,\"line\":1},\"start\":{\"character\":0,\"line\":1}},\"severity\":4,\"source\":\"compass\"}],\"uri\":\"a\"}}",
         ],
     ),
     // it tells the number of another line: one comes above both, another between them, which goes again; an error in front of them, and a note behind an operand

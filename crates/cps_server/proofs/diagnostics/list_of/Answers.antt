@@ -5,8 +5,8 @@ use Rattle.std.proofs.lemmas.List.{drop_min, take_min}
 use Rattle.cps_rpc.specs.Lines.{source_lines}
 use Rattle.cps_server.specs.Marks.{place_of}
 use Rattle.cps_server.specs.Diagnostics.{Listener, most_told}
-use Rattle.cps_server.specs.Code.Writing.{AddsAllIdle, AddsMarks, counted_text}
-use Rattle.cps_server.proofs.WritingLemmas.{list-made}
+use Rattle.cps_server.specs.Code.Writing.{AddsAllBeside, AddsMarks, counted_text}
+use Rattle.cps_server.proofs.WritingLemmas.{beside-both, list-made}
 use Rattle.cps_server.proofs.diagnostics.list_of.Goals as goal
 
 some-of : (n : ℕ) → not (n == 0) ≡ nat_lt 0 n
@@ -26,8 +26,10 @@ returns c =
     same c.in_ok-push_marks.ensures in
     let counts = c.in_ok-push_more.ensures ∙ ap (λ (t : List ℕ). c.push_marks.new.list.items ++ counted_text c.args.encoding (source_lines t)
     (map place_of c.split_at.result.1.now) c.saturating_sub.result) same in
-    let idle = subst (λ (t : List ℕ). AddsAllIdle to t (not c.is_empty.result) c.push_more.new.list.items c.push_all_idle.new.list.items) same c.in_ok-push_all_idle.ensures in
+    let beside = subst (λ (t : List ℕ). AddsAllBeside to t (not c.is_empty.result) c.push_more.new.list.items c.push_all_notes.new.list.items) same
+    (beside-both to c.document.result.now (not c.is_empty.result) c.in_ok-later.later c.in_ok-push_all_notes.field-0 c.push_more.new.list.items
+    c.push_all_idle.new.list.items c.push_all_notes.new.list.items c.in_ok-later.ensures c.in_ok-push_all_notes.ensures) in
     list-made to c.args.marked.now c.in_ok-marks.marks _ _ c.saturating_sub.result c.push.new.self.items c.push_marks.new.list.items c.push_more.new.list.items
-    c.push_all_idle.new.list.items c.push-2.new.self.items (not c.is_empty.result) c.in_ok-marks.ensures front back c.saturating_sub.ensures
-    (ap not c.is_empty.ensures ∙ some-of (length c.split_at.result.0.now)) opened lists counts idle
+    c.push_all_notes.new.list.items c.push-2.new.self.items (not c.is_empty.result) c.in_ok-marks.ensures front back c.saturating_sub.ensures
+    (ap not c.is_empty.ensures ∙ some-of (length c.split_at.result.0.now)) opened lists counts beside
     c.in_ok-push-2.ensures.items

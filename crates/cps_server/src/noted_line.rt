@@ -1,0 +1,105 @@
+//! What a line has to do with notes.
+
+use crate::document::Document;
+use crate::idle::Idle;
+use crate::mentions::line_of;
+use cps_check::{Note, ends_program, notes_within, start_of};
+use cps_final::LineSymbols;
+use cps_list::View;
+use cps_state::Trace;
+use cps_text::{Line, Name};
+use std::alloc::{AllocError, Global};
+
+/// Whether something assembles a line, which notes it may have, and on what in it the notes of other lines rest.
+pub struct NotedLine {
+    pub idle: Idle,
+    /// The notes that it may have, by column.
+    pub notes: Vec<Note>,
+    /// The symbols that it reads, each once.
+    pub reads: Vec<Name>,
+    pub ends_program: bool,
+}
+
+// Written out, so that it is proved once.
+impl Drop for NotedLine {
+    fn drop(self) {
+        let NotedLine {
+            idle: _,
+            notes,
+            reads,
+            ends_program: _,
+        } = self;
+        drop(notes);
+        drop(reads);
+    }
+}
+
+impl NotedLine {
+    /// Of the line at a place of a document, from 0. The symbols are of another line, and give way to its own.
+    pub fn of(
+        alloc: Global,
+        document: &Document,
+        number: u32,
+        symbols: &mut LineSymbols,
+    ) -> Result<NotedLine, AllocError> {
+        let session = document.session();
+        let line = line_of(document, number);
+        let Some(trace) = session.traces().get(number as usize) else {
+            return Ok(NotedLine::none(alloc));
+        };
+        let idle = Idle::of(line, trace)?;
+        let notes = notes_of(alloc, line, trace)?;
+        symbols.replace(trace.puts(), trace.reads(), trace.items())?;
+        let mut reads = symbols.read().to_vec(alloc)?;
+        let ends_program = ends_program(trace);
+        if ends_program {
+            push_start(&mut reads, session.line(number.saturating_add(1)))?;
+        }
+        Ok(NotedLine {
+            idle,
+            notes,
+            reads,
+            ends_program,
+        })
+    }
+
+    /// Of no line.
+    fn none(alloc: Global) -> NotedLine {
+        NotedLine {
+            idle: Idle::Never,
+            notes: Vec::new(alloc),
+            reads: Vec::new(alloc),
+            ends_program: false,
+        }
+    }
+
+    /// Whether another line has to do with notes as this one.
+    pub fn is_as(&self, other: &NotedLine) -> bool {
+        self.idle == other.idle
+            && self.ends_program == other.ends_program
+            && self.reads == other.reads
+            && self.notes == other.notes
+    }
+}
+
+/// The notes that a line may have that does this; none if no source may have it.
+fn notes_of(alloc: Global, line: &[u8], trace: &Trace) -> Result<Vec<Note>, AllocError> {
+    if Line::check(line).is_err() {
+        return Ok(Vec::new(alloc));
+    }
+    notes_within(alloc, line, trace)
+}
+
+/// Appends the symbol that a line names where execution begins, if it is none that the line reads.
+fn push_start(reads: &mut Vec<Name>, card: Option<&Line>) -> Result<(), AllocError> {
+    let Some(card) = card else {
+        return Ok(());
+    };
+    match start_of(card.bytes()) {
+        Some(name) if !reads.contains(&name) => {
+            reads.push(name)?;
+            Ok(())
+        }
+        _ => Ok(()),
+    }
+}
