@@ -171,12 +171,16 @@ fn tell_partner(alloc: Global, deck: QueriedText<'_>, line: u32) -> Result<Value
     highlight(alloc, TEXT, range)
 }
 
-/// Where the operation of a line stands.
+/// Where the operation of a line stands. What no line may have counts as blanks.
 fn operation_range(alloc: Global, deck: QueriedText<'_>, number: u32) -> Result<Value, AllocError>
     ensures { IfOk result (λ json. IsInLine number (view json)) }
 {
     let line = line_of(deck.document, number);
-    let columns = Card::of(line).operation_or_all();
+    let read = match deck.document.session().line(number.saturating_add(1)) {
+        Some(card) => card.bytes(),
+        None => line,
+    };
+    let columns = Card::of(read).operation_or_all();
     columns_range(alloc, deck.encoding, line, number, columns)
 }
 
