@@ -31,55 +31,60 @@ fn behind_first_row(text: &[u8]) -> &[u8] {
     text.split_at(end.min(text.len())).1
 }
 
+/// The words of a call, the octal text that it is given, and what comes of it.
+type CallRow = (&'static [&'static str], &'static str, &'static str);
+
+/// Calls that make a source, each with the words that the source makes.
+const AGAIN: [CallRow; 7] = [
+    (
+        &["compass", "disassemble"],
+        "000100 51110000037361054610\n000101 04000001004600046000\n",
+        "000100 51110000037361054610\n000101 04000001004600046000\n",
+    ),
+    (
+        &["compass", "disassemble", "--central", "-"],
+        "000100 04000 00100\n       46000 46000\n000104 77777 77777 77777 77772\n",
+        "000100 04000001004600046000\n000104 77777777777777777772\n",
+    ),
+    (
+        &["compass", "disassemble", "--from", "101", "--to=102"],
+        "000100 51110000037361054610\n000102 04000001024600046000\n000103 04000001034600046000\n",
+        "000102 04000001024600046000\n",
+    ),
+    (
+        &["compass", "disassemble", "--columns", "9-36"],
+        "  17778 000100 51110000037361054610\n",
+        "000100 51110000037361054610\n",
+    ),
+    (
+        &["compass", "disassemble", "--peripheral", "--format", "dump"],
+        "0100 2012 3456\n     1074\n",
+        "0100 2012\n0101 3456\n0102 1074\n",
+    ),
+    (
+        &[
+            "compass",
+            "disassemble",
+            "--entry",
+            "101,100",
+            "--code=100-101",
+            "--data",
+            "102",
+        ],
+        "000100 51110000037361054610\n000101 04000001004600046000\n000102 04000001004600046000\n",
+        "000100 51110000037361054610\n000101 04000001004600046000\n000102 04000001004600046000\n",
+    ),
+    (
+        &["compass", "disassemble", "--ident", "x", "--bare"],
+        "000100 04000001004600046000\n",
+        "000100 04000001004600046000\n",
+    ),
+];
+
 /// The words of an octal text are those of the source that is made: all of them, those of a range, of columns, or of a machine that is named.
 #[test]
 fn makes_the_words_again(rt: HostRuntime) {
-    const ROWS: [(&[&str], &str, &str); 7] = [
-        (
-            &["compass", "disassemble"],
-            "000100 51110000037361054610\n000101 04000001004600046000\n",
-            "000100 51110000037361054610\n000101 04000001004600046000\n",
-        ),
-        (
-            &["compass", "disassemble", "--central", "-"],
-            "000100 04000 00100\n       46000 46000\n000104 77777 77777 77777 77772\n",
-            "000100 04000001004600046000\n000104 77777777777777777772\n",
-        ),
-        (
-            &["compass", "disassemble", "--from", "101", "--to=102"],
-            "000100 51110000037361054610\n000102 04000001024600046000\n000103 04000001034600046000\n",
-            "000102 04000001024600046000\n",
-        ),
-        (
-            &["compass", "disassemble", "--columns", "9-36"],
-            "  17778 000100 51110000037361054610\n",
-            "000100 51110000037361054610\n",
-        ),
-        (
-            &["compass", "disassemble", "--peripheral", "--format", "dump"],
-            "0100 2012 3456\n     1074\n",
-            "0100 2012\n0101 3456\n0102 1074\n",
-        ),
-        (
-            &[
-                "compass",
-                "disassemble",
-                "--entry",
-                "101,100",
-                "--code=100-101",
-                "--data",
-                "102",
-            ],
-            "000100 51110000037361054610\n000101 04000001004600046000\n000102 04000001004600046000\n",
-            "000100 51110000037361054610\n000101 04000001004600046000\n000102 04000001004600046000\n",
-        ),
-        (
-            &["compass", "disassemble", "--ident", "x", "--bare"],
-            "000100 04000001004600046000\n",
-            "000100 04000001004600046000\n",
-        ),
-    ];
-    for (words, octal, want) in ROWS.iter() {
+    for (words, octal, want) in AGAIN.iter() {
         let got = words_again(&rt, rt.alloc(), words, octal);
         assert_bytes(&rt, octal, behind_first_row(&got), want);
     }
@@ -155,57 +160,64 @@ const SOURCE_END: &str = "*
           END
 ";
 
+/// Calls that make no source, with what each tells.
+const NOT_MADE: [CallRow; 10] = [
+    (
+        &["compass", "disassemble"],
+        "",
+        "no row of OCTAL has an address and octal digits\n",
+    ),
+    (
+        &["compass", "disassemble"],
+        "000100 .....\n",
+        "no digit of OCTAL is taken\n",
+    ),
+    (
+        &["compass", "disassemble", "--from", "101"],
+        "000100 11111\n",
+        "no digit of OCTAL is taken\n",
+    ),
+    (
+        &["compass", "disassemble", "--peripheral"],
+        "010000 1234\n",
+        "no program has a word at 010000\n",
+    ),
+    (
+        &["compass", "disassemble", "--central"],
+        "400000 1????\n",
+        "no program has a word at 400000\n",
+    ),
+    (
+        &["compass", "disassemble", "--central"],
+        "000100 51110000037361054610\n000100 51110000037361054611\n",
+        "row 2: a digit of the word at 000100 has another value in a row before it\n",
+    ),
+    (
+        &["compass", "disassemble", "--central", "--peripheral"],
+        "000100 11111\n",
+        "error: the argument '--central' cannot be used with '--peripheral'\n\nFor more information, try '--help'.\n",
+    ),
+    (
+        &["compass", "disassemble", "--code", "177-100"],
+        "000100 11111\n",
+        "error: invalid value '177-100' for '--code <LIST>': write ranges of octal addresses, as 100-177,300\n\nFor more information, try '--help'.\n",
+    ),
+    (
+        &["compass", "disassemble", "--names", "old.sym"],
+        "000100 11111\n",
+        "error: no file is read or written here\n",
+    ),
+    (
+        &["compass", "disassemble", "old.oct"],
+        "000100 11111\n",
+        "error: no file is read or written here\n",
+    ),
+];
+
 /// Where no source is made, why is told and nothing is written.
 #[test]
 fn tells_why_no_source_is_made(rt: HostRuntime) {
-    const ROWS: [(&[&str], &str, &str); 9] = [
-        (
-            &["compass", "disassemble"],
-            "",
-            "no row of OCTAL has an address and octal digits\n",
-        ),
-        (
-            &["compass", "disassemble"],
-            "000100 .....\n",
-            "no digit of OCTAL is taken\n",
-        ),
-        (
-            &["compass", "disassemble", "--from", "101"],
-            "000100 11111\n",
-            "no digit of OCTAL is taken\n",
-        ),
-        (
-            &["compass", "disassemble", "--peripheral"],
-            "010000 1234\n",
-            "no program has a word at 010000\n",
-        ),
-        (
-            &["compass", "disassemble", "--central"],
-            "000100 51110000037361054610\n000100 51110000037361054611\n",
-            "row 2: a digit of the word at 000100 has another value in a row before it\n",
-        ),
-        (
-            &["compass", "disassemble", "--central", "--peripheral"],
-            "000100 11111\n",
-            "error: the argument '--central' cannot be used with '--peripheral'\n\nFor more information, try '--help'.\n",
-        ),
-        (
-            &["compass", "disassemble", "--code", "177-100"],
-            "000100 11111\n",
-            "error: invalid value '177-100' for '--code <LIST>': write ranges of octal addresses, as 100-177,300\n\nFor more information, try '--help'.\n",
-        ),
-        (
-            &["compass", "disassemble", "--names", "old.sym"],
-            "000100 11111\n",
-            "error: no file is read or written here\n",
-        ),
-        (
-            &["compass", "disassemble", "old.oct"],
-            "000100 11111\n",
-            "error: no file is read or written here\n",
-        ),
-    ];
-    for (words, octal, told) in ROWS.iter() {
+    for (words, octal, told) in NOT_MADE.iter() {
         let mut reader = Counted::new(octal.as_bytes());
         let got = call_with(rt.alloc(), words, &mut reader);
         assert_call(&rt, &got, 2, "", told);
