@@ -40,7 +40,7 @@ pub fn read_lines<R: Read>(alloc: Global, reader: &mut Counted<R>) -> Result<Vec
 }
 
 /// The lines of a text, each by itself.
-fn lines_of(alloc: Global, text: &LineText) -> Result<Vec<Line>, InputFault>
+pub fn lines_of(alloc: Global, text: &LineText) -> Result<Vec<Line>, InputFault>
     ensures { MatchResult result (λ lines. lines.items ≡ text.now) (λ fault. fault ≡ InputFault.Memory) }
 {
     let mut lines = Vec::new(alloc);
