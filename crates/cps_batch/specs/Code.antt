@@ -1,3 +1,4 @@
 -- What serves the code alone, and no reader need believe.
 pub mod Kept
 pub mod Passes
+pub mod Words

@@ -5,6 +5,7 @@
 //! - `kept_pass_one.rt`: pass one of all lines
 //! - `passes.rt`: both passes over the lines
 //! - `source.rt`: the source
+//! - `source_words.rt`: the words of a source, without its texts
 #![tactic(auto)]
 
 mod assembling;
@@ -12,8 +13,11 @@ mod fault;
 mod kept_pass_one;
 mod passes;
 mod source;
+mod source_words;
 
 pub use assembling::batch;
 pub use fault::BatchFault;
 pub use kept_pass_one::KeptPassOne;
+pub use passes::make_words;
 pub use source::Source;
+pub use source_words::SourceWords;

@@ -5,8 +5,10 @@ ghost use Rattle.cps_list.specs.Code.Making.{IsPrintoutOf, shows_symbols};
 ghost use Rattle.cps_list.specs.Texts.{text_of};
 ghost use Rattle.cps_edit.specs.Assembly.{assembly_of, outcomes_under, traces_of};
 ghost use Rattle.cps_edit.specs.Flagged.{flagged_lines};
+ghost use Rattle.cps_batch.specs.Code.Words.{AreWordsOf};
 ghost use Rattle.cps_batch.specs.Code.Passes.{AreGathered, AreKeptParts, AreParts, AreStatements, IsNext, IsPassed, IsShown, KeepsOn, PassesOn, ShowsOn, noted, statements_of};
 
+use crate::source_words::SourceWords;
 use cps_final::{Finals, Gather, Gathered, LineSymbols, Output};
 use cps_input::{LineText, part_at};
 use cps_list::{Mention, Part, Printout, push_mentions};
@@ -31,6 +33,19 @@ pub fn make_part(
 {
     let mut one = BatchPassOne::of(alloc, hashing, lines, part)?;
     one.make_text(alloc, lines)
+}
+
+/// The words of a source, and the number of flagged lines. No text is made, and of what a line makes only its words stay.
+pub fn make_words(
+    alloc: Global,
+    hashing: Hashing,
+    lines: &LineText,
+) -> Result<SourceWords, AllocError>
+    requires { length lines.now ≤ MOST_LINES }
+    ensures { IfOk result (AreWordsOf lines.now) }
+{
+    let one = BatchPassOne::of(alloc, hashing, lines, Part::Binary)?;
+    one.make_words(alloc, lines)
 }
 
 /// What pass one makes of the lines so far.
@@ -131,6 +146,23 @@ impl BatchPassOne {
         let finals = &self.gather;
         let (text, flagged) = printout.finish(finals, finals.is_open_at_end(), mentions)?;
         Ok((text, flagged as u32))
+    }
+
+    /// The words of these lines, and the number of flagged ones.
+    fn make_words(&self, alloc: Global, lines: &LineText) -> Result<SourceWords, AllocError>
+        requires passed { IsPassed lines.now self.now }
+        requires part { self.now.part ≡ Part.Binary }
+        requires few { length lines.now ≤ MOST_LINES }
+        ensures { IfOk result (AreWordsOf lines.now) }
+    {
+        let printout = self.show(alloc, lines)?;
+        let finals = &self.gather;
+        let (words, flagged) = printout.into_words(finals, finals.is_open_at_end())?;
+        Ok(SourceWords {
+            words,
+            machine: finals.machine(),
+            flagged: flagged as u32,
+        })
     }
 
     /// What pass two shows of these lines.

@@ -45,7 +45,7 @@ pub fn put_pieces(words: &mut Words, pieces: &[Piece]) -> Result<(), AllocError>
 }
 
 /// Puts the literals over what stands.
-fn put_pool(words: &mut Words, finals: &Finals) -> Result<(), AllocError>
+pub fn put_pool(words: &mut Words, finals: &Finals) -> Result<(), AllocError>
     ensures { OnOk result (Adds (texts.pool_pieces (⟦<Finals as Gathered>⟧.gathered finals.now)) words.old words.new) }
 {
     for word in finals.pool() {

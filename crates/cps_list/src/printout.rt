@@ -1,13 +1,13 @@
 //! The texts of a source, made in one walk over its lines.
-ghost use Rattle.std.specs.Prelude.{◌≡◌, [], ◌++◌, ◌+◌, ◌<◌, ◌≤◌, ◌^◌, map, IfOk, OnOk};
+ghost use Rattle.std.specs.Prelude.{◌≡◌, true, [], ◌++◌, ◌+◌, ◌<◌, ◌≤◌, ◌^◌, map, IfOk, OnOk};
 ghost use Rattle.cps_code.specs.Image.{piece_of};
 ghost use Rattle.cps_final.specs.Outcome.{flags_of};
 ghost use Rattle.cps_list.specs.Flagged.{flag_row, end_row, count_row};
 ghost use Rattle.cps_list.specs.ListingText.{line_rows, open_row};
-ghost use Rattle.cps_list.specs.Code.Making.{Adds, AddsLine, AddsRows, Finishes, IsPrintoutOf, binary_of, shown};
+ghost use Rattle.cps_list.specs.Code.Making.{Adds, AddsLine, AddsRows, Finishes, FinishesWords, IsPrintoutOf, binary_of, shown, shows_binary};
 ghost use Rattle.cps_list.specs.Symbols.{symbol_rows};
 
-use crate::binary::{push_binary, put_pieces};
+use crate::binary::{push_binary, put_pieces, put_pool};
 use crate::flagged::{count_of, push_end, push_row, with_end};
 use crate::listing::{push_open_row, push_rows};
 use crate::mention::Mention;
@@ -100,6 +100,27 @@ impl Printout {
         show_symbols(&mut text, part.shows_symbols(), mentions, finals)?;
         show_flags(&mut text, part.shows_flags(), &flags, is_open, count)?;
         Ok((text, count))
+    }
+
+    /// The words of the binary text, without a text, and how many lines have a flag, with one more where a range is open at the end.
+    pub fn into_words(self, finals: &Finals, is_open: bool) -> Result<(Words, u64), AllocError>
+        requires shown { shows_binary self.part ≡ true }
+        requires few { self.flagged < 2 ^ 32 }
+        ensures words { IfOk result (λ made. FinishesWords self (⟦<Finals as Gathered>⟧.gathered finals.now) is_open made.0 made.1) }
+        ensures few { IfOk result (λ made. made.1 ≤ self.flagged + 1) }
+    {
+        let Printout {
+            part: _,
+            listing,
+            words,
+            flags,
+            flagged,
+        } = self;
+        drop(listing);
+        drop(flags);
+        let mut words = words;
+        put_pool(&mut words, finals)?;
+        Ok((words, with_end(flagged, is_open)))
     }
 }
 

@@ -81,3 +81,9 @@ Finishes printout finals is_open mentions text flagged =
     → mentions ≡ shown (shows_symbols printout.part) (mentions_from 1 outcomes)
     → (text ≡ text_of printout.part (record { lines = lines; outcomes = outcomes; finals = finals; is_open = is_open }))
     × (flagged ≡ flagged_with is_open outcomes)
+
+-- the words of a printout's binary text, and its number of flagged lines
+abbrev pub FinishesWords : Printout → Finals → Bool → List (Option ℕ) → ℕ → Type 0
+FinishesWords printout finals is_open words flagged =
+    (lines : List (List ℕ)) (outcomes : List Outcome) → IsPrintoutOf lines outcomes printout
+    → ArePacked (pieces_in outcomes ++ pool_pieces finals) words × (flagged ≡ flagged_with is_open outcomes)
