@@ -93,6 +93,14 @@ all-right selection words given pieces wrong holds are none address =
           (no-word machine pieces address (omega arith))
     ]
 
+-- the words of lines that are a source for a machine
+pub wrong-words : (selection : Selection) (given : List Claimed) (lines : List (List ℕ)) (wrong : List ℕ)
+    → machine_of (assembly_of lines).finals ≡ selection.machine
+    → wrong ≡ wrong_in selection given (digits_in selection.machine (pieces_of (assembly_of lines)))
+    → wrong ≡ wrong_in selection given (deck_of (assembly_of lines))
+wrong-words selection given lines wrong machine are =
+    are ∙ ap (λ (m : Machine). wrong_in selection given (digits_in m (pieces_of (assembly_of lines)))) (sym machine)
+
 -- a source of which no line is flagged and no word is wrong
 pub made : (selection : Selection) (octal text : List ℕ) (lines : List (List ℕ)) (claims : ClaimedWords) (wrong : List ℕ) → HasText text lines → IsSource lines
     → machine_of (assembly_of lines).finals ≡ selection.machine → flagged_lines lines ≡ 0 → Holds claims (claims_of selection octal)

@@ -1,12 +1,9 @@
 //! Whether a text makes the words that are wanted.
-ghost use Rattle.std.specs.Prelude.{◌≡◌, ◌∷◌, ◌++◌, ℕ, List, [], true, IfOk, IfSome, map};
+ghost use Rattle.std.specs.Prelude.{◌≡◌, ◌≤◌, ℕ, List, [], true, IfOk, length};
 ghost use Rattle.cps_code.specs.Image.{Piece, ArePacked};
-ghost use Rattle.cps_text.specs.Line.{IsLine};
 ghost use Rattle.cps_input.specs.Lines.{HasText};
 ghost use Rattle.cps_input.specs.Sources.{IsSource};
-ghost use Rattle.cps_final.specs.Finals.{machine_of};
-ghost use Rattle.cps_edit.specs.Assembly.{assembly_of};
-ghost use Rattle.cps_compare.specs.Differences.{deck_of, digits_in};
+ghost use Rattle.cps_compare.specs.Differences.{digits_in};
 ghost use Rattle.cps_claims.specs.Claims.{Claimed, Words, IsWordAt};
 ghost use Rattle.cps_claims.specs.Code.Held.{Holds};
 ghost use Rattle.cps_disassembly.specs.Makes as makes;
@@ -15,15 +12,13 @@ ghost use Rattle.cps_disassembly.specs.Certificate.{Certifies, wrong_in};
 
 use super::selection::Selection;
 use super::span::Span;
-use cps_batch::Source;
+use cps_batch::{Source, SourceWords, make_words};
 use cps_claims::ClaimedWords;
-use cps_compare::{DeckWords, show_word};
-use cps_final::Gathered;
-use cps_input::cut_lines;
+use cps_compare::{DeckWords, Makers, show_word};
+use cps_input::{InputFault, LineText, lines_of, source_lines};
 use cps_list::View;
 use cps_state::Hashing;
 use cps_text::limits::MOST_LINES;
-use cps_text::{Line, LineFault};
 use std::alloc::{AllocError, Global};
 
 /// What is wrong with the lines of a source for the machine.
@@ -57,9 +52,10 @@ pub fn certify(
 ) -> Result<Certificate, AllocError>
     ensures { (octal : List ℕ) → Holds claims.now (claims_of selection octal) → IfOk result (Certifies selection octal text.now) }
 {
-    match source_lines(alloc, text)? {
-        Some(lines) => certify_lines(alloc, hashing, lines, claims, selection),
-        None => Ok(Certificate::Unfit),
+    match source_lines(alloc, text) {
+        Ok(lines) => certify_lines(alloc, hashing, &lines, claims, selection),
+        Err(InputFault::Memory) => Err(AllocError),
+        Err(_) => Ok(Certificate::Unfit),
     }
 }
 
@@ -67,93 +63,25 @@ pub fn certify(
 fn certify_lines(
     alloc: Global,
     hashing: Hashing,
-    lines: Vec<Line>,
+    lines: &LineText,
     claims: &ClaimedWords,
     selection: Selection,
 ) -> Result<Certificate, AllocError>
-    requires { IsSource lines.items }
-    ensures { (octal text : List ℕ) → Holds claims.now (claims_of selection octal) → HasText text lines.items
+    requires { IsSource lines.now }
+    ensures { (octal text : List ℕ) → Holds claims.now (claims_of selection octal) → HasText text lines.now
         → IfOk result (Certifies selection octal text) }
 {
-    let source = Source::of(alloc, hashing, lines)?;
-    judge(alloc, &source, claims, selection)
-}
-
-/// The lines of a text, cut as those of an input are. None: they are none of a source.
-fn source_lines(alloc: Global, text: &[u8]) -> Result<Option<Vec<Line>>, AllocError>
-    ensures { IfOk result (λ lines. IfSome lines (λ lines. HasText text.now lines.items × IsSource lines.items)) }
-{
-    let cut = cut_lines(alloc, text)?;
-    keep_lines(alloc, &cut)
-}
-
-/// The same lines, each by itself. None: they are none of a source.
-fn keep_lines(alloc: Global, cut: &[&[u8]]) -> Result<Option<Vec<Line>>, AllocError>
-    ensures { IfOk result (λ lines. IfSome lines (λ lines. (lines.items ≡ map (λ line. line.now) cut.now) × IsSource lines.items)) }
-{
-    let mut lines = Vec::new(alloc);
-    for text in cut {
-        let is_kept = keep_line(alloc, &mut lines, text)?;
-        if !is_kept {
-            return Ok(None);
-        }
-    }
-    if lines.len() > MOST_LINES {
-        return Ok(None);
-    }
-    Ok(Some(lines))
-}
-
-/// Adds a line, if the text is one.
-fn keep_line(alloc: Global, lines: &mut Vec<Line>, text: &[u8]) -> Result<bool, AllocError>
-    ensures { IfOk result (λ kept. kept ≡ true → (lines.new.items ≡ lines.old.items ++ text.now ∷ []) × IsLine text.now) }
-{
-    match Line::new(alloc, text) {
-        Ok(line) => {
-            lines.push(line)?;
-            Ok(true)
-        }
-        Err(LineFault::Memory) => Err(AllocError),
-        Err(_) => Ok(false),
-    }
-}
-
-/// What is found of an assembled source.
-fn judge(
-    alloc: Global,
-    source: &Source,
-    claims: &ClaimedWords,
-    selection: Selection,
-) -> Result<Certificate, AllocError>
-    requires { IsSource source.now }
-    ensures { (octal text : List ℕ) → Holds claims.now (claims_of selection octal) → HasText text source.now
-        → IfOk result (Certifies selection octal text) }
-{
-    if source.finals().machine() != selection.machine {
+    let made = make_words(alloc, hashing, lines)?;
+    if made.machine != selection.machine {
         return Ok(Certificate::Unfit);
     }
-    find_failures(alloc, source, claims, selection)
-}
-
-/// What is found of an assembled source for the machine.
-fn find_failures(
-    alloc: Global,
-    source: &Source,
-    claims: &ClaimedWords,
-    selection: Selection,
-) -> Result<Certificate, AllocError>
-    requires source { IsSource source.now }
-    requires machine { machine_of (assembly_of source.now).finals ≡ selection.machine }
-    ensures { (octal text : List ℕ) → Holds claims.now (claims_of selection octal) → HasText text source.now
-        → IfOk result (Certifies selection octal text) }
-{
-    let words = wrong_words(alloc, source, claims, selection)?;
-    let flagged = source.flagged_lines();
+    let flagged = made.flagged;
+    let words = wrong_words(alloc, made, claims, selection)?;
     let all_right = has_none(&words);
     if all_right && flagged == 0 {
         return Ok(Certificate::Made);
     }
-    let lines = flagged_lines(alloc, source)?;
+    let lines = flagged_lines(alloc, hashing, lines)?;
     Ok(Certificate::Failed(Failures { words, lines }))
 }
 
@@ -163,18 +91,20 @@ fn has_none(words: &[u32]) -> bool
     words.is_empty()
 }
 
-/// The addresses at which an assembled source has a wrong word.
+/// The addresses at which wrong words stand. What made them isn't asked.
 fn wrong_words(
     alloc: Global,
-    source: &Source,
+    made: SourceWords,
     claims: &ClaimedWords,
     selection: Selection,
 ) -> Result<Vec<u32>, AllocError>
-    requires { machine_of (assembly_of source.now).finals ≡ selection.machine }
-    ensures { (given : List Claimed) → Holds claims.now given
-        → IfOk result (λ words. words.items ≡ wrong_in selection given (deck_of (assembly_of source.now))) }
+    ensures { (given : List Claimed) (pieces : List Piece) → Holds claims.now given → ArePacked pieces made.words
+        → IfOk result (λ wrong. wrong.items ≡ wrong_in selection given (digits_in selection.machine pieces)) }
 {
-    let deck = DeckWords::of(alloc, source)?;
+    let deck = DeckWords {
+        words: made.words,
+        makers: Makers::new(alloc),
+    };
     wrong_in(alloc, &deck, claims, selection)
 }
 
@@ -244,15 +174,21 @@ pub fn is_wanted(claims: &ClaimedWords, selection: Selection, address: u32) -> b
     selection.takes(address) && claims.gives(address)
 }
 
-/// The numbers of the lines that are flagged, from 1.
-fn flagged_lines(alloc: Global, source: &Source) -> Result<Vec<u32>, AllocError> {
-    let mut lines = Vec::new(alloc);
+/// The numbers of the lines that are flagged, from 1. Few drafts have any, so these are assembled once more.
+fn flagged_lines(alloc: Global, hashing: Hashing, lines: &LineText) -> Result<Vec<u32>, AllocError>
+    requires { length lines.now ≤ MOST_LINES }
+{
+    let Ok(lines) = lines_of(alloc, lines) else {
+        return Err(AllocError);
+    };
+    let source = Source::of(alloc, hashing, lines)?;
+    let mut flagged = Vec::new(alloc);
     for before in 0..source.count() {
         if let Some(outcome) = source.outcome(before + 1) {
             if outcome.flags().has_flag() {
-                lines.push(before + 1)?;
+                flagged.push(before + 1)?;
             }
         }
     }
-    Ok(lines)
+    Ok(flagged)
 }
