@@ -1,5 +1,5 @@
 -- Addresses outside of which nothing stands, and the addresses that pass a test.
-use Rattle.std.proofs.Common.{◌≡◌, ℕ, zero, suc, ◌+◌, ◌-◌, ◌<◌, ◌≤◌, ◌&&◌, Bool, true, false, inl, inr, refl, sym, ap, ◌∙◌, arith, cond, List, [], ◌∷◌, ◌++◌, append-nil, Option, None, Some}
+use Rattle.std.proofs.Common.{◌≡◌, ℕ, zero, suc, ◌+◌, ◌-◌, ◌<◌, ◌≤◌, ◌&&◌, Bool, false, inl, inr, refl, sym, ap, ◌∙◌, arith, cond, List, [], ◌∷◌, ◌++◌, append-nil, Option, None, Some}
 use Rattle.std.specs.Prelude.{filter, is_some, option_map}
 use Rattle.cps_code.specs.Image.{Piece}
 use Rattle.cps_expr.specs.declared.machine.Machine.{Machine}

@@ -1,4 +1,4 @@
-use Rattle.std.proofs.Common.{◌≡◌, arith, [], ◌∷◌, ◌++◌, cond, sym, ap, ◌∙◌, append-nil}
+use Rattle.std.proofs.Common.{arith, [], ◌∷◌, ◌++◌, cond, sym, ap, ◌∙◌, append-nil}
 use Rattle.std.specs.Prelude.{map}
 use Rattle.std.specs.List.{filter}
 use Rattle.std.proofs.lemmas.List.{map_push}
