@@ -3,3 +3,5 @@ pub mod SpotLemmas
 pub mod LineEditLemmas
 pub mod SameButLemmas
 mod WorkedRows
+pub mod MacroNameLemmas
+pub mod CallLineLemmas

@@ -1,6 +1,7 @@
 pub mod Mentions
 pub mod Agreement
 pub mod Spots
+pub mod CallLines
 pub mod Code
 pub mod SameBut
 pub mod LineEdits

@@ -1,6 +1,7 @@
 //! The bodies that a source writes.
 
-use crate::macro_text::{MacroName, MacroText, list_runs};
+use crate::macro_names::MacroName;
+use crate::macro_text::{MacroText, list_runs};
 use crate::meaning::Meaning;
 use crate::operands::{list_operands, tail_of};
 use crate::role::Role;
@@ -149,7 +150,6 @@ fn add_parameters(
             name: *name,
             is_local: false,
             defined,
-            is_written: false,
         })?;
     }
     Ok(())
@@ -188,7 +188,6 @@ fn add_local_line(
                 name,
                 is_local: true,
                 defined: stretch,
-                is_written: false,
             })?;
         }
         if let Some((_, known)) = text.named(part.text) {
@@ -206,12 +205,7 @@ fn add_local_line(
 /// Whether the operands of a LOCAL line are names of which none is taken.
 fn are_new(alloc: Global, text: &MacroText, tail: &[u8]) -> Result<bool, AllocError> {
     match read_locals(alloc, tail) {
-        Ok(names) => Ok(
-            names
-                .as_slice()
-                .iter()
-                .all(|name| text.place_of(*name).is_none()),
-        ),
+        Ok(names) => Ok(names.as_slice().iter().all(|name| !text.is_taken(*name))),
         Err(ExprFault::Unreadable) => Ok(false),
         Err(ExprFault::Memory) => Err(AllocError),
     }

@@ -18,6 +18,7 @@
 //! - `line_edit.rt`: an edit of a line of a source
 //! - `line_fields.rt`: the fields of a statement as they move
 //! - `line_gaps.rt`: the blanks between the fields of a line
+//! - `macro_names.rt`: the names of a macro
 //! - `macro_text.rt`: a macro as its source writes it
 //! - `meaning.rt`: what a name means
 //! - `mention.rt`: a name, where it is written, and what it means there
@@ -46,6 +47,8 @@
 //! - `written_names.rt`: the names that a source writes, with those that mean nothing and the bodies around them
 #![tactic(auto)]
 
+ghost use Rattle.cps_mention.specs.CallLines.{WhatIsPutIsInserted};
+
 mod agreeing;
 mod bodies;
 mod calling;
@@ -61,6 +64,7 @@ mod kept_body;
 mod line_edit;
 mod line_fields;
 mod line_gaps;
+mod macro_names;
 mod macro_text;
 mod meaning;
 mod mention;
@@ -107,3 +111,8 @@ pub use spot::{Spot, SpotKind};
 pub use spots::{counted, keep_definitions, spots_of};
 pub use stretch::Stretch;
 pub use written_names::WrittenNames;
+
+/// What a call puts into a line of a body, with what wrote it, is what the assembler puts in.
+pub fn what_is_put_is_inserted()
+    ensures { WhatIsPutIsInserted }
+{}

@@ -1,27 +1,25 @@
 //! A macro as its source writes it.
+ghost use Rattle.std.specs.Prelude.{◌≡◌, ◌≤◌, ◌<◌, ◌++◌, length, IfOk, OnOk, option_map, slice_get};
+ghost use Rattle.cps_text.specs.Card as cards;
+ghost use Rattle.cps_text.specs.Card.{card};
+ghost use Rattle.cps_text.specs.Insertion.{is_of_run};
+ghost use Rattle.cps_text.specs.Runs.{run_len};
+ghost use Rattle.cps_mention.specs.CallLines.{ArePut, IsShort};
+ghost use Rattle.cps_mention.specs.Code.MacroNames.{IsPlaced, body_origins, kept_origins, lists_of, origins_for, placed_origins};
 
+use crate::macro_names::{MacroName, MacroNames};
 use crate::placed_text::PlacedText;
-use crate::statement_text::KeptText;
+use crate::statement_text::{KeptText, columns_of};
 use crate::stretch::Stretch;
 use cps_state::Shared;
 use cps_text::{Fields, Name, read_fields, run_end};
 use std::alloc::{AllocError, Global};
-use std::collections::BTreeMap;
 
 /// The characters of a generated name.
 const GENERATED_CHARACTERS: usize = 8;
 
 /// Stands for a name of a body that nothing calls.
 const UNKNOWN: u8 = b'?';
-
-/// A parameter or a local name, where it is defined, and whether the lines behind the LOCAL lines write it.
-#[derive(Clone, Copy)]
-pub struct MacroName {
-    pub name: Name,
-    pub is_local: bool,
-    pub defined: Stretch,
-    pub is_written: bool,
-}
 
 /// A macro as its source writes it.
 #[derive(Drop)]
@@ -30,10 +28,9 @@ pub struct MacroText {
     pub line: u32,
     /// Where its name is defined.
     pub defined: Stretch,
-    /// The parameters, followed by the local names.
-    pub names: Vec<MacroName>,
-    /// Places in these, by the names.
-    index: BTreeMap<Name, usize>,
+    names: MacroNames,
+    /// For each of these, whether the lines behind the LOCAL lines write it.
+    are_written: Vec<bool>,
     /// The lines of its body, from 1.
     pub lines: Vec<u32>,
     /// How many of them are LOCAL lines, which stand first.
@@ -46,8 +43,8 @@ impl MacroText {
         MacroText {
             line: defined.line,
             defined,
-            names: Vec::new(alloc),
-            index: BTreeMap::new(alloc),
+            names: MacroNames::new(alloc),
+            are_written: Vec::new(alloc),
             lines,
             local_lines,
         }
@@ -55,28 +52,35 @@ impl MacroText {
 
     /// One more name.
     pub fn add(&mut self, name: MacroName) -> Result<(), AllocError> {
-        let at = self.names.len();
-        self.names.push(name)?;
-        self.index.insert(name.name, at)?;
+        self.names.add(name)?;
+        self.are_written.push(false)?;
         Ok(())
     }
 
-    /// Where a name stands among its names.
-    pub fn place_of(&self, name: Name) -> Option<usize> {
-        self.index.get(&name).copied()
+    /// Whether it has a name already.
+    pub fn is_taken(&self, name: Name) -> bool {
+        self.names.place_of(name).is_some()
     }
 
-    /// The name that a run writes.
+    /// The name that a run writes, and its place.
     pub fn named(&self, run: &[u8]) -> Option<(usize, MacroName)> {
-        let at = self.place_of(Name::read(run)?)?;
-        let name = self.names.get(at).copied()?;
+        let at = self.names.place_of_run(run)?;
+        let name = self.names.get(at)?;
         Some((at, name))
     }
 
     /// The lines behind the LOCAL lines write a name.
     pub fn write(&mut self, at: usize) {
-        if let Some(name) = self.names.get_mut(at) {
-            name.is_written = true;
+        if let Some(is_written) = self.are_written.get_mut(at) {
+            *is_written = true;
+        }
+    }
+
+    /// Whether these lines write the parameter of so many before it.
+    pub fn writes_parameter(&self, at: usize) -> bool {
+        match (self.names.get(at), self.are_written.get(at)) {
+            (Some(name), Some(is_written)) => *is_written && !name.is_local,
+            _ => false,
         }
     }
 
@@ -92,25 +96,14 @@ impl MacroText {
         line: u32,
         body: &[u8],
         arguments: &[&[Stretch]],
-    ) -> Result<Vec<Stretch>, AllocError> {
-        let mut origins = Vec::new(alloc);
-        for run in list_runs(alloc, body)?.as_slice() {
-            let stretch = Stretch::behind(line, run.before, run.text.len());
-            match self.named(run.text) {
-                Some((_, name)) if name.is_local => {
-                    for _character in 0..GENERATED_CHARACTERS {
-                        origins.push(stretch)?;
-                    }
-                }
-                Some((at, _)) => {
-                    if let Some(argument) = arguments.get(at) {
-                        origins.extend_from_slice(argument)?;
-                    }
-                }
-                None => push_unmarked(&mut origins, line, *run, is_comment(body))?,
-            }
+    ) -> Result<Vec<Stretch>, AllocError>
+        ensures { IsShort body.now → IfOk result (λ origins. ArePut self.now.names (lists_of arguments.now) line body.now origins.items) }
+    {
+        if is_comment(body) {
+            columns_of(alloc, line, body)
+        } else {
+            put_runs(alloc, &self.names, line, body, arguments)
         }
-        Ok(origins)
     }
 
     /// A line of the body that nothing calls, with something that is no name in the place of each of its names.
@@ -134,26 +127,114 @@ impl MacroText {
     }
 }
 
-/// The columns of a run that stays: without `_`, unless its line is a comment.
+/// What wrote the characters of a line that is no comment.
+fn put_runs(
+    alloc: Global,
+    names: &MacroNames,
+    line: u32,
+    body: &[u8],
+    arguments: &[&[Stretch]],
+) -> Result<Vec<Stretch>, AllocError>
+    ensures { IsShort body.now → IfOk result (λ origins. origins.items ≡ body_origins names.now (lists_of arguments.now) line body.now) }
+{
+    let mut origins = Vec::new(alloc);
+    let mut rest = body;
+    while !rest.is_empty() {
+        let before = body.len() - rest.len();
+        let (text, behind) = rest.split_at(first_run_len(rest));
+        put_run(
+            &mut origins,
+            names,
+            line,
+            PlacedText { text, before },
+            arguments,
+        )?;
+        rest = behind;
+    }
+    Ok(origins)
+}
+
+/// The same of one run.
+fn put_run(
+    origins: &mut Vec<Stretch>,
+    names: &MacroNames,
+    line: u32,
+    run: PlacedText<'_>,
+    arguments: &[&[Stretch]],
+) -> Result<(), AllocError>
+    ensures { IsPlaced run.entry
+        → OnOk result (origins.new.items ≡ origins.old.items ++ placed_origins names.now (lists_of arguments.now) line run.entry) }
+{
+    match names.place_of_run(run.text) {
+        Some(at) => {
+            let columns = Stretch::behind(line, run.before, run.text.len());
+            put_name(origins, names.get(at), columns, arguments, at)
+        }
+        None => push_unmarked(origins, line, run),
+    }
+}
+
+/// What wrote the argument of so many before it.
+fn argument_at<'t>(arguments: &[&'t [Stretch]], at: usize) -> Option<&'t [Stretch]>
+    ensures { option_map (λ a. a.now) result ≡ slice_get (lists_of arguments.now) at }
+{
+    arguments.get(at).copied()
+}
+
+/// What wrote what stands for a name, which has so many before it, in the place of columns.
+fn put_name(
+    origins: &mut Vec<Stretch>,
+    name: Option<MacroName>,
+    columns: Stretch,
+    arguments: &[&[Stretch]],
+    at: usize,
+) -> Result<(), AllocError>
+    ensures { OnOk result (origins.new.items ≡ origins.old.items ++ origins_for (lists_of arguments.now) columns at name) }
+{
+    match (name, argument_at(arguments, at)) {
+        (Some(name), _) if name.is_local => {
+            origins.extend_from_slice(&[columns; GENERATED_CHARACTERS])
+        }
+        (Some(_), Some(argument)) => origins.extend_from_slice(argument),
+        _ => Ok(()),
+    }
+}
+
+/// The columns of a run that stays, without `_`.
 fn push_unmarked(
     origins: &mut Vec<Stretch>,
     line: u32,
     run: PlacedText<'_>,
-    is_comment: bool,
-) -> Result<(), AllocError> {
-    for (at, byte) in run.text.iter().enumerate() {
-        if is_comment || *byte != b'_' {
-            origins.push(Stretch::behind(line, run.before.saturating_add(at), 1))?;
+) -> Result<(), AllocError>
+    ensures { IsPlaced run.entry
+        → OnOk result (origins.new.items ≡ origins.old.items ++ kept_origins line run.entry.before run.entry.text.now) }
+{
+    let mut before = run.before;
+    for byte in run.text {
+        if *byte != b'_' {
+            origins.push(Stretch::behind(line, before, 1))?;
         }
+        before = before.saturating_add(1);
     }
     Ok(())
 }
 
-fn is_comment(body: &[u8]) -> bool {
+fn is_comment(body: &[u8]) -> bool
+    ensures { result ≡ cards.is_comment (card body.now) }
+{
     match read_fields(body) {
         Fields::Comment => true,
         _ => false,
     }
+}
+
+/// How many characters the first run of a text has: letters, digits and points; each other character is one by itself.
+fn first_run_len(text: &[u8]) -> usize
+    ensures len { 0 < length text.now → result ≡ run_len is_of_run text.now }
+    ensures some { 0 < length text.now → 0 < result }
+    ensures within { 0 < length text.now → result ≤ length text.now }
+{
+    run_end(text).max(1)
 }
 
 /// The runs of a line of a body: letters, digits and points, and each other character by itself. A comment is one.
@@ -171,7 +252,7 @@ pub fn list_runs<'a>(alloc: Global, body: &'a [u8]) -> Result<Vec<PlacedText<'a>
     for at in 0..body.len() {
         if at >= from {
             let rest = whole.cut(at, body.len());
-            from = at.saturating_add(run_end(rest.text).max(1));
+            from = at.saturating_add(first_run_len(rest.text));
             runs.push(whole.cut(at, from))?;
         }
     }

@@ -313,10 +313,7 @@ impl<'a> ToldStatement<'a> {
 /// Whether the body of a macro writes the parameter of an argument.
 fn is_written(called: Option<&MacroText>, at: usize) -> bool {
     match called {
-        Some(named) => match named.names.get(at) {
-            Some(name) => name.is_written && !name.is_local,
-            None => false,
-        },
+        Some(named) => named.writes_parameter(at),
         None => false,
     }
 }

@@ -1,4 +1,6 @@
 //! A statement's text, and what wrote each of its characters.
+ghost use Rattle.std.specs.Prelude.{◌≡◌, IfOk};
+ghost use Rattle.cps_mention.specs.CallLines.{IsShort, origins_of, written_on};
 
 use crate::placed_text::PlacedText;
 use crate::stretch::Stretch;
@@ -106,7 +108,9 @@ fn add_column(stretches: &mut Vec<Stretch>, origin: Stretch) -> Result<(), Alloc
 }
 
 /// What wrote the characters of a line of a source.
-pub fn columns_of(alloc: Global, line: u32, text: &[u8]) -> Result<Vec<Stretch>, AllocError> {
+pub fn columns_of(alloc: Global, line: u32, text: &[u8]) -> Result<Vec<Stretch>, AllocError>
+    ensures { IsShort text.now → IfOk result (λ origins. origins.items ≡ origins_of (written_on line 0 text.now)) }
+{
     let mut origins = Vec::with_capacity(alloc, text.len())?;
     for before in 0..text.len() {
         origins.push(Stretch::behind(line, before, 1))?;

@@ -1,6 +1,8 @@
 //! Columns of a line of a source.
-ghost use Rattle.std.specs.Prelude.{◌≡◌};
+ghost use Rattle.std.specs.Prelude.{◌≡◌, ◌+◌, ◌≤◌};
+ghost use Rattle.cps_text.specs.Line.{longest_line};
 ghost use Rattle.cps_mention.specs.Spots.{same_stretch};
+ghost use Rattle.cps_mention.specs.CallLines.{columns};
 
 /// Columns of a line of a source, from one up to another.
 #[derive(Clone, Copy, Debug, PartialEq, Eq, PartialOrd, Ord, Hash)]
@@ -15,7 +17,9 @@ pub struct Stretch {
 
 impl Stretch {
     /// So many columns of a line behind so many others.
-    pub fn behind(line: u32, before: usize, len: usize) -> Stretch {
+    pub fn behind(line: u32, before: usize, len: usize) -> Stretch
+        ensures { before + len ≤ longest_line → result ≡ columns line before len }
+    {
         let first = before.saturating_add(1);
         Stretch {
             line,
