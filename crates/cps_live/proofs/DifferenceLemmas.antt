@@ -1,5 +1,5 @@
 -- Labels that have other final values, and what has the same.
-use Rattle.std.proofs.Common.{◌≡◌, ℕ, ◌+◌, ◌≤◌, refl, sym, ap, ◌∙◌, Bool, true, false, not, ◌||◌, List, [], ◌∷◌, ◌++◌, take, Option, None, Some}
+use Rattle.std.proofs.Common.{◌≡◌, ℕ, ◌+◌, ◌≤◌, refl, sym, ap, ◌∙◌, Bool, true, false, not, ◌||◌, List, [], ◌∷◌, ◌++◌, map, take, Option, None, Some}
 use Rattle.std.specs.Prelude.{All, flat_map, is_some, unwrap_or, option_and_then}
 use Rattle.std.specs.List.{list_all, list_any, slice_get}
 use Rattle.std.proofs.lemmas.Bool.{and_from, and_parts, or_from, or_parts}
@@ -94,6 +94,11 @@ module _ (hashing : Hashing) (m : KeyFilter) where
   none-among labels none ts marked =
       each-passes (λ name. not (is-among labels name)) (names_in ts).labels
       (each-named hashing m (λ name. not (is-among labels name) ≡ true) (λ name here. ap not (apart label-has labels none name here)) ts marked)
+
+-- a test of what is made of each
+pub any-map : {X Y : Type 0} (p : Y → Bool) (f : X → Y) (xs : List X) → list_any p (map f xs) ≡ list_any (λ x. p (f x)) xs
+any-map p f [] = refl
+any-map p f (x ∷ xs) = ap (λ b. p (f x) || b) (any-map p f xs)
 
 module _ (ends : Ends) where
   -- all passes but the labels that are listed

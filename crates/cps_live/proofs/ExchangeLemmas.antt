@@ -44,7 +44,7 @@ use Rattle.cps_chunk.proofs.MovedChunkLemmas.{are-moved}
 use Rattle.cps_live.specs.declared.exchange.MovedParts.{MovedParts}
 use Rattle.cps_live.specs.declared.kept_source.KeptSource.{KeptSource}
 use Rattle.cps_live.specs.declared.second_pass.SecondPass.{SecondPass}
-use Rattle.cps_live.specs.Code.Editing.{AreKept}
+use Rattle.cps_live.specs.Code.Editing.{AreKept, IsStill}
 use Rattle.cps_live.specs.Code.Exchanged.{AreMovedParts, HasRuns, LooksOfExchange, redone_moved}
 use Rattle.cps_live.specs.Code.SecondPass.{looks_in, redone_in}
 use Rattle.cps_live.specs.Code.StillChunks.{StandFrom}
@@ -56,6 +56,15 @@ runs-within runs = record { first = omega (arith, runs.first); second = omega (a
 
 pub lines-within : (kept : KeptSource) (e : Exchange) → HasRuns (vec_len kept.lines) e → IsWithin (length kept.lines.items) e
 lines-within kept e runs = subst (λ (n : ℕ). IsWithin n e) kept.lines.ok.0 (runs-within runs)
+
+pub still-next : {old between new : KeptSource} → IsStill old between → IsStill between new → IsStill old new
+still-next one two = record {
+  hashing = two.hashing ∙ one.hashing;
+  lines = two.lines ∙ one.lines;
+  traces = two.traces ∙ one.traces;
+  outcomes = two.outcomes ∙ one.outcomes;
+  lengths = two.lengths ∙ one.lengths;
+}
 
 -- ---- all lines of a source
 

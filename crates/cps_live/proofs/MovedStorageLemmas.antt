@@ -10,7 +10,8 @@ use Rattle.cps_chunk.specs.Sparse.{renewed, AreWithin}
 use Rattle.cps_chunk.specs.Code.Storing.{left_by, stored_by}
 use Rattle.cps_chunk.specs.Code.Walk.{stretch}
 use Rattle.cps_chunk.proofs.ExchangedLemmas.{exchanged-renewed, map-exchanged}
-use Rattle.cps_chunk.proofs.WalkLemmas.{stretch-part}
+use Rattle.cps_chunk.proofs.SparseLemmas.{renewed-none}
+use Rattle.cps_chunk.proofs.WalkLemmas.{stretch-all, stretch-part}
 use Rattle.cps_chunk.specs.Code.Looks.{items_before, items_from}
 use Rattle.cps_live.specs.Code.Storing.{left_by_each}
 use Rattle.cps_live.proofs.StretchLemmas.{before-from, before-within, from-within}
@@ -85,6 +86,14 @@ module _ (e : Exchange) (olds : List Trace) (news : List (SparseItem Trace)) (wi
         ++ (renewed e.keep first (stretch-part e.keep e.mid within.first olds i) ++ renewed e.from behind (is i))))
         ∙ sym (exchanged-renewed e olds (length olds) refl within first second behind first-places second-places behind-places)
         ∙ ap (λ ns. exchanged e (renewed 0 ns olds)) news-parts
+
+    pub runs-moved : ((renewed 0 [] (stretch 0 e.keep olds) ++ renewed e.mid second (stretch e.mid e.from olds)) ++ renewed e.keep first (stretch e.keep e.mid olds))
+        ++ renewed e.from behind (stretch e.from (length olds) olds)
+        ≡ exchanged e (renewed 0 news olds)
+    runs-moved =
+        (λ i. ((renewed-none 0 (take e.keep olds) i ++ renewed e.mid second (sym (stretch-part e.mid e.from within.second olds) i))
+        ++ renewed e.keep first (sym (stretch-part e.keep e.mid within.first olds) i)) ++ renewed e.from behind (stretch e.from (length olds) olds))
+        ∙ parts-moved (stretch e.from (length olds) olds) (stretch-all e.from olds)
 
 -- places among the lines of a run, by how many it has
 pub run-end : (a b : ℕ) (olds : List Trace) (news : List (SparseItem Trace)) → a ≤ b → b ≤ length olds → AreWithin a b news → AreWithin a (a + length (take (b - a) (drop a olds))) news

@@ -28,7 +28,7 @@ use Rattle.cps_chunk.specs.Code.Walk.{stretch}
 use Rattle.cps_chunk.proofs.ReplayedLemmas.{redone-all_same, redone-each_same, redone-append, redone-drop_front, redone-drop_behind}
 use Rattle.cps_chunk.proofs.WalkLemmas.{stretch-long}
 use Rattle.cps_chunk.specs.Code.Looks.{items_before, items_from, looks_again}
-use Rattle.cps_live.specs.Code.Differences.{passes, AreExact}
+use Rattle.cps_live.specs.Code.Differences.{passes, AreExact, AreSoughtBy}
 use Rattle.cps_live.specs.declared.second_pass.SecondPass.{SecondPass}
 use Rattle.cps_live.specs.Code.SecondPass.{IsExactPass, GoesOver, redone_in, looks_at, looks_in}
 use Rattle.cps_live.proofs.StretchLemmas.{before-from, before-within, from-within, stretch-join}
@@ -100,6 +100,7 @@ module _ (pass : SecondPass) where
     exact-still next base ends differences = record {
       ends = ap (λ d. d.ends) differences ∙ exact.ends ∙ sym ends;
       exact = subst (λ d. (named : Named) → passes d named ≡ same_at (was_of d.ends) (now_of d.ends) named) (sym differences) exact.exact;
+      sought = subst (λ d. AreSoughtBy next.base.hashing d) (sym differences) (subst (λ h. AreSoughtBy h pass.differences) (sym (ap (λ b. b.hashing) base)) exact.sought);
       known = λ yes.
           (λ i. list_all (λ (t : Trace). same_named (was_of (ends i)) (now_of (ends i)) t.items) (base i).traces.now) ∙ exact.known (sym (ap (λ d. d.unread) differences) ∙ yes);
     }

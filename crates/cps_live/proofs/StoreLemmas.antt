@@ -1,11 +1,13 @@
 -- Where blocks and literals stand behind chunks, one after another.
 use Rattle.std.proofs.Common.{arith, ◌≡◌, ℕ, ◌+◌, ◌≤◌, refl, sym, ap, subst, ◌∙◌, List, [], ◌++◌, append_assoc, length, take, drop}
-use Rattle.std.specs.Prelude.{IfOk, Result, Ok, Err}
+use Rattle.std.specs.Prelude.{IfOk, Result, Ok, Err, sum}
 use Rattle.std.proofs.lemmas.List.{drop_all, length-map, length-take, take_all}
 use Rattle.cps_state.specs.Course.{Trace}
 use Rattle.cps_final.specs.declared.storage.Storage.{Storage}
 use Rattle.cps_chunk.specs.declared.chunk.Chunk.{Chunk}
-use Rattle.cps_chunk.specs.Code.Chunk.{lengths_of}
+use Rattle.cps_chunk.specs.Code.Chunk.{AreChunksOf, lengths_of}
+use Rattle.cps_chunk.specs.declared.walk.Baseline.{Baseline}
+use Rattle.cps_chunk.proofs.ChunkLemmas.{chunks-long}
 use Rattle.cps_chunk.specs.declared.sparse.SparseItem.{SparseItem}
 use Rattle.cps_chunk.specs.declared.put.ChunkSplice.{ChunkSplice}
 use Rattle.cps_chunk.specs.Sparse.{renewed, AreWithin}
@@ -16,6 +18,8 @@ use Rattle.cps_chunk.proofs.SparseLemmas.{AreWithin-append, renewed-append, rene
 use Rattle.cps_chunk.proofs.StoringLemmas.{also-more, also-none}
 use Rattle.cps_chunk.proofs.WalkLemmas.{stretch-all, stretch-long}
 use Rattle.cps_live.specs.declared.news.News.{News}
+use Rattle.cps_live.specs.declared.storage.RenewedRun.{RenewedRun}
+use Rattle.cps_live.specs.Code.StillChunks.{AreAllChunks, AreStillChunks, done_in, renewed_in}
 use Rattle.cps_live.specs.Code.Storing.{edited}
 use Rattle.cps_live.proofs.StretchLemmas.{before-from, before-within, from-within, stretch-join}
 
@@ -103,3 +107,39 @@ parts-stored cut news olds es here left one two three four within front back is 
     append_assoc (renewed 0 [] (stretch 0 cut.before olds) ++ stretch cut.before cut.keep olds ++ es) (renewed cut.from here loose) (renewed cut.behind left last)
     ∙ append_assoc (renewed 0 [] (stretch 0 cut.before olds) ++ stretch cut.before cut.keep olds) es (renewed cut.from here loose ++ renewed cut.behind left last)
     ∙ (λ i. front_lines i ++ (is i ++ behind i))
+
+-- ---- chunks of all lines, gone over by runs
+
+pub all-stand : (base : Baseline) (cs : List Chunk) → AreAllChunks base cs → length base.traces.now ≡ sum (lengths_of cs)
+all-stand base cs all = chunks-long base.hashing cs base.traces.now all.chunks
+
+whole-stretch : (base : Baseline) (cs : List Chunk) → AreAllChunks base cs → stretch 0 (0 + sum (lengths_of cs)) base.traces.now ≡ base.traces.now
+whole-stretch base cs all = take_all (0 + sum (lengths_of cs)) base.traces.now (omega (arith, all-stand base cs all))
+
+pub all-stretch-of : (base : Baseline) (cs : List Chunk) → AreAllChunks base cs → AreChunksOf base.hashing cs (stretch 0 (0 + sum (lengths_of cs)) base.traces.now)
+all-stretch-of base cs all = subst (λ (ts : List Trace). AreChunksOf base.hashing cs ts) (sym (whole-stretch base cs all)) all.chunks
+
+pub still-all : (base : Baseline) (cs ds : List Chunk) → AreAllChunks base cs → AreStillChunks base 0 cs ds → AreAllChunks base ds
+still-all base cs ds all still = record {
+  few = all.few;
+  chunks = subst (λ (ts : List Trace). AreChunksOf base.hashing ds ts) (whole-stretch base cs all) still.chunks;
+}
+
+pub still-none : (base : Baseline) (cs : List Chunk) → AreAllChunks base cs → AreStillChunks base 0 cs cs
+still-none base cs all = record { chunks = all-stretch-of base cs all; lengths = refl }
+
+pub still-more : (base : Baseline) (cs ds es : List Chunk) → AreStillChunks base 0 cs ds → AreStillChunks base 0 ds es → AreStillChunks base 0 cs es
+still-more base cs ds es one two = record {
+  chunks = subst (λ (ns : List ℕ). AreChunksOf base.hashing es (stretch 0 (0 + sum ns) base.traces.now)) one.lengths two.chunks;
+  lengths = two.lengths ∙ one.lengths;
+}
+
+-- ---- what a run of lines does
+
+pub done-here : (base : Baseline) (run : RenewedRun) (at lines : ℕ) → run.from ≡ at → run.to ≡ at + lines → renewed_in base at lines run.news.now ≡ done_in base run
+done-here base run at lines from to = λ i. renewed (sym from i) run.news.now (stretch (sym from i) (sym to i) base.traces.now)
+
+pub done-none : (base : Baseline) (run : RenewedRun) → run.from ≡ run.to → [] ≡ done_in base run
+done-none base run same =
+    let none : stretch run.from run.to base.traces.now ≡ [] = drop_all run.from (take run.to base.traces.now) (omega (arith, length-take run.to base.traces.now, same)) in
+    sym (ap (renewed run.from run.news.now) none)

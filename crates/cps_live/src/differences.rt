@@ -2,15 +2,11 @@
 ghost use Rattle.std.specs.Prelude.{◌≡◌, false, true, List, IfOk, IsTrue};
 ghost use Rattle.std.specs.List.{list_any};
 ghost use Rattle.cps_expr.specs.Value.{same_name};
-ghost use Rattle.cps_state.specs.Course.{Trace as Did};
-ghost use Rattle.cps_state.specs.declared.key.Key.TheVariants as key;
-ghost use Rattle.cps_chunk.specs.KeyFilter.{AreMarked, has, keys_named, mark_of};
-ghost use Rattle.cps_final.specs.NamedFinals.{names_in, all_pass};
 ghost use Rattle.cps_live.specs.Code.NamesRead.{has_name};
-ghost use Rattle.cps_live.specs.Code.Differences.{passes, AreExact, AreKnown, PlacesStandIn, IsListed};
+ghost use Rattle.cps_live.specs.Code.Differences.{AreExact, AreKnown, AreSoughtBy, IsListed, PassMarked, PlacesStandIn, marks_of};
 
 use crate::names_read::NamesRead;
-use cps_chunk::{KeyFilter, mark_of};
+use cps_chunk::{KeyFilter, SoughtKeys};
 use cps_expr::is_same_name;
 use cps_final::{Ends, Naming};
 use cps_state::{Hashing, Key};
@@ -24,6 +20,8 @@ const FEW: usize = 64;
 pub struct Differences<'a> {
     ends: Ends<'a>,
     labels: Option<Vec<Name>>,
+    /// These labels as keys.
+    sought: SoughtKeys,
     /// Whether no line reads one of these labels.
     unread: bool,
 }
@@ -34,9 +32,11 @@ impl Drop for Differences<'_> {
         let Differences {
             ends: _,
             labels,
+            sought,
             unread: _,
         } = self;
         drop(labels);
+        drop(sought);
     }
 }
 
@@ -71,25 +71,30 @@ impl<'a> Differences<'a> {
     /// Between the final values before an edit and after it, for lines that read none but these symbols.
     pub fn of(
         alloc: Global,
+        hashing: Hashing,
         ends: Ends<'a>,
         read: &NamesRead,
     ) -> Result<Differences<'a>, AllocError>
         ensures ends { IfOk result (λ differences. differences.ends ≡ ends.entry) }
         ensures exact { IfOk result AreExact }
+        ensures sought { IfOk result (AreSoughtBy hashing) }
         ensures known { IfOk result (AreKnown read.now) }
     {
         if ends.patch.changes.count() > FEW || !places_stand(ends) {
             return Ok(Differences {
                 ends,
                 labels: None,
+                sought: SoughtKeys::new(alloc),
                 unread: false,
             });
         }
         let labels = list_labels(alloc, ends)?;
+        let sought = seek_all(alloc, hashing, &labels)?;
         let unread = !has_read(read, &labels);
         Ok(Differences {
             ends,
             labels: Some(labels),
+            sought,
             unread,
         })
     }
@@ -102,23 +107,25 @@ impl<'a> Differences<'a> {
     }
 
     /// Whether what lines name may have another final value, of whose labels these have all marks.
-    pub fn may_have(&self, hashing: Hashing, marks: &KeyFilter) -> bool
-        ensures { result ≡ false → (ts : List Did) → AreMarked hashing marks.now (keys_named ts) → all_pass (passes self.now) (names_in ts) ≡ true }
+    pub fn may_have(&self, marks: &KeyFilter) -> bool
+        ensures { result ≡ false → PassMarked self.now marks.now }
     {
         match &self.labels {
-            Some(labels) => has_label(hashing, marks, labels),
+            Some(_) => self.sought.has_bits_in(marks),
             None => true,
         }
     }
 }
 
-/// Whether one of some labels has its mark.
-fn has_label(hashing: Hashing, marks: &KeyFilter, labels: &[Name]) -> bool
-    ensures { result ≡ list_any (λ name. has marks.now (mark_of hashing (key.Label name))) labels.now }
+/// Labels as keys that are sought.
+fn seek_all(alloc: Global, hashing: Hashing, labels: &[Name]) -> Result<SoughtKeys, AllocError>
+    ensures { IfOk result (λ sought. sought ≡ marks_of hashing labels.now) }
 {
-    labels
-        .iter()
-        .any(|name| marks.has(mark_of(hashing, Key::Label(*name))))
+    let mut sought = SoughtKeys::new(alloc);
+    for name in labels {
+        sought.seek(hashing, Key::Label(*name))?;
+    }
+    Ok(sought)
 }
 
 /// Whether one of some labels is read.

@@ -3,9 +3,10 @@ ghost use Rattle.std.specs.Prelude.{◌≡◌, ◌<◌, ◌^◌, IfOk, OnOk, OnE
 ghost use Rattle.cps_chunk.specs.Code.Chunk.{lengths_of};
 ghost use Rattle.cps_edit.specs.Compares.{ComparesUpTo, Steps};
 ghost use Rattle.cps_chunk.specs.Sparse.{AreWithin};
+ghost use Rattle.cps_chunk.specs.Code.Moved.{replayed_moved};
 ghost use Rattle.cps_live.specs.Code.Editing.{AreKept, HasRoomToPatch, IsKept, IsStill, IsStillWith};
 ghost use Rattle.cps_live.specs.Code.NamesRead.{HasRead, items_of};
-ghost use Rattle.cps_live.specs.Code.Exchanged.{AreMovedParts, HasPassedMoved, HasRuns, IsExchanged, IsMovedPass, IsRecutMoved, LooksOfExchange, StepsOfExchange, looks_by, redone_by};
+ghost use Rattle.cps_live.specs.Code.Exchanged.{AreMovedParts, HasPassedMoved, HasRuns, IsExchanged, IsMovedPass, IsMovedStorage, IsRecutMoved, LooksOfExchange, StepsOfExchange, looks_by, redone_by};
 
 use crate::chunk_list::mark_all;
 use crate::first_pass::FirstPass;
@@ -14,7 +15,7 @@ use crate::second_pass::SecondPass;
 use crate::storage::storage_moved;
 use cps_chunk::{Baseline, Chunk, RecutChunk, SparseItem, chunks_moved, put_all, recut_exchange};
 use cps_edit::Exchange;
-use cps_final::{Ends, FinalsPatch, Outcome};
+use cps_final::{Ends, FinalsPatch, Outcome, Storage};
 use cps_state::{Trace, Work};
 use std::alloc::AllocError;
 use std::mem::replace;
@@ -46,7 +47,7 @@ impl KeptSource {
         let pass = self.pass_one_moved(exchange, work)?;
         let FirstPass { traces, changes } = pass;
         let traces = traces.into_renewed();
-        let storage = storage_moved(self.baseline(), exchange, &traces)?;
+        let storage = self.storage_of_move(exchange, &traces)?;
         let mut patch = FinalsPatch { changes, storage };
         self.make_room_to_patch(&patch)?;
         self.finals.exchange(&mut patch);
@@ -101,6 +102,31 @@ impl KeptSource {
             traces: &self.traces,
         };
         FirstPass::of_exchange(base, &mut self.chunks, exchange, work)
+    }
+
+    /// Where blocks and literals stand behind a move in which these lines do something new, None where they stand as they stood. What chunks leave is gathered
+    /// where it was not.
+    fn storage_of_move(
+        &mut self,
+        exchange: Exchange,
+        traces: &[SparseItem<Trace>],
+    ) -> Result<Option<Storage>, AllocError>
+        requires kept { IsKept self.old }
+        requires few { vec_len self.old.lines < 2 ^ 63 }
+        requires runs { HasRuns (vec_len self.old.lines) exchange }
+        requires traces { traces.now ≡ replayed_moved self.old.lines.items exchange }
+        ensures kept { IsKept self.new }
+        ensures still { IsStillWith self.old self.new }
+        ensures storage { IfOk result (IsMovedStorage self.old.lines.items exchange) }
+    {
+        let base = Baseline {
+            alloc: self.alloc,
+            hashing: self.hashing,
+            first: &self.first,
+            lines: &self.lines,
+            traces: &self.traces,
+        };
+        storage_moved(base, &mut self.chunks, exchange, traces)
     }
 
     /// Room for what a move changes behind the last line, once and back.

@@ -53,7 +53,7 @@ impl<'a> SecondPass<'a> {
         ensures news { IfOk result (λ pass. pass.redo.news.items ≡ []) }
         ensures exact { IfOk result IsExactPass }
     {
-        let differences = Differences::of(base.alloc, ends, read)?;
+        let differences = Differences::of(base.alloc, base.hashing, ends, read)?;
         Ok(SecondPass {
             base,
             differences,
@@ -69,7 +69,7 @@ impl<'a> SecondPass<'a> {
         ensures lines { chunk.new.lines ≡ chunk.old.lines }
         ensures passes { IfOk result (λ passes. passes ≡ all_pass (is_same_in self.now) (names_in olds.now)) }
     {
-        if !self.differences.may_have(self.base.hashing, &chunk.reads) {
+        if !self.differences.may_have(&chunk.reads) {
             return Ok(true);
         }
         chunk.gather_names(self.base.alloc, self.base.hashing, olds)?;
@@ -140,7 +140,7 @@ impl<'a> SecondPass<'a> {
         ensures { IsTrue result → (ts : List Did) → AreChunksOf self.now.base.hashing chunks.now ts → NameTheSame self.now ts }
     {
         for chunk in chunks {
-            if self.differences.may_have(self.base.hashing, &chunk.reads) {
+            if self.differences.may_have(&chunk.reads) {
                 return false;
             }
         }

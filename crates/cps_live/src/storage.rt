@@ -8,7 +8,7 @@ ghost use Rattle.cps_live.specs.Code.Exchanged.{HasRuns};
 ghost use Rattle.cps_chunk.specs.Code.Chunk.{IsChunkOf, lengths_of};
 ghost use Rattle.cps_chunk.specs.Code.Storing.{StoresAlso};
 ghost use Rattle.cps_chunk.specs.Code.Walk.{stretch};
-ghost use Rattle.cps_live.specs.Code.StillChunks.{AreStillChunks, CutsAround, IsStillChunk, StandFrom, renewed_in};
+ghost use Rattle.cps_live.specs.Code.StillChunks.{AreAllChunks, AreStillChunks, CutsAround, IsRunOf, IsStillChunk, StandFrom, done_in, renewed_in};
 ghost use Rattle.cps_live.specs.Code.Storing.{IsStoredBehind, edited, left_by_each};
 
 use crate::news::News;
@@ -141,29 +141,133 @@ pub fn storage_with(storage: &Storage, trace: &Trace) -> Result<Option<Storage>,
 /// The same where two runs of lines have changed places, and these do something new.
 pub fn storage_moved(
     base: Baseline,
+    chunks: &mut [Chunk],
     exchange: Exchange,
     news: &[SparseItem<Trace>],
 ) -> Result<Option<Storage>, AllocError>
     requires runs { HasRuns (length base.traces.now) exchange }
     requires places { AreWithin exchange.keep (length base.traces.now) news.now }
-    ensures { IfOk result (λ next. IsStoredBehind base.entry.traces.now next (exchanged exchange (renewed 0 news.now base.entry.traces.now))) }
+    requires chunks { AreAllChunks base chunks.old }
+    ensures stored { IfOk result (λ next. IsStoredBehind base.entry.traces.now next (exchanged exchange (renewed 0 news.now base.entry.traces.now))) }
+    ensures chunks { AreStillChunks base.entry 0 chunks.old chunks.new }
 {
     let Exchange { keep, mid, from } = exchange;
     let olds = base.traces;
     let first = &olds[keep..mid];
     let second = &olds[mid..from];
-    let behind = &olds[from..];
     if leave_same_each(olds, news) && (leave_same(first, &[]) || leave_same(second, &[])) {
         return Ok(None);
     }
-    let (first_news, rest) = split_before(news, mid);
-    let (second_news, behind_news) = split_before(rest, from);
-    let mut next = Storage::new(base.alloc, base.hashing);
-    store_all(&mut next, &olds[..keep])?;
-    store_renewed(&mut next, mid, second, second_news)?;
-    store_renewed(&mut next, keep, first, first_news)?;
-    store_renewed(&mut next, from, behind, behind_news)?;
+    let next = store_moved(base, chunks, exchange, news)?;
     Ok(Some(next))
+}
+
+/// The same, made anew of what chunks leave, and of what lines leave whose chunk a run cuts.
+fn store_moved(
+    base: Baseline,
+    chunks: &mut [Chunk],
+    exchange: Exchange,
+    news: &[SparseItem<Trace>],
+) -> Result<Storage, AllocError>
+    requires runs { HasRuns (length base.traces.now) exchange }
+    requires places { AreWithin exchange.keep (length base.traces.now) news.now }
+    requires chunks { AreAllChunks base chunks.old }
+    ensures stored { IfOk result (λ next. IsStored next (exchanged exchange (renewed 0 news.now base.entry.traces.now))) }
+    ensures chunks { AreStillChunks base.entry 0 chunks.old chunks.new }
+{
+    let Exchange { keep, mid, from } = exchange;
+    let (first, rest) = split_before(news, mid);
+    let (second, behind) = split_before(rest, from);
+    let mut next = Storage::new(base.alloc, base.hashing);
+    let front = RenewedRun {
+        from: 0,
+        to: keep,
+        news: &[],
+    };
+    let second = RenewedRun {
+        from: mid,
+        to: from,
+        news: second,
+    };
+    let first = RenewedRun {
+        from: keep,
+        to: mid,
+        news: first,
+    };
+    let behind = RenewedRun {
+        from,
+        to: base.traces.len(),
+        news: behind,
+    };
+    store_run(&mut next, base, chunks, front)?;
+    store_run(&mut next, base, chunks, second)?;
+    store_run(&mut next, base, chunks, first)?;
+    store_run(&mut next, base, chunks, behind)?;
+    Ok(next)
+}
+
+/// Lines from one on up to another, of which these do something new. Lines count from 0.
+#[derive(Clone, Copy)]
+struct RenewedRun<'n> {
+    from: usize,
+    to: usize,
+    news: &'n [SparseItem<Trace>],
+}
+
+/// With lines more: of a chunk that is wholly among them, what its lines leave together is taken.
+fn store_run(
+    storage: &mut Storage,
+    base: Baseline,
+    chunks: &mut [Chunk],
+    run: RenewedRun<'_>,
+) -> Result<(), AllocError>
+    requires chunks { AreAllChunks base chunks.old }
+    requires run { IsRunOf (length base.traces.now) run }
+    ensures stores { OnOk result (StoresAlso storage.old storage.new (done_in base.entry run.entry)) }
+    ensures chunks { AreStillChunks base.entry 0 chunks.old chunks.new }
+{
+    let mut at = 0;
+    let mut done = run.from;
+    let mut left = run.news;
+    for chunk in chunks.iter_mut() {
+        let end = at + chunk.lines;
+        let to = end.min(run.to).max(done);
+        let (news, behind) = split_before(left, to);
+        let part = RenewedRun {
+            from: done,
+            to,
+            news,
+        };
+        store_part(storage, base, at, chunk, part)?;
+        at = end;
+        done = to;
+        left = behind;
+    }
+    Ok(())
+}
+
+/// With lines more: if they are all lines of this chunk, with so many in front of it, what these leave together is taken.
+fn store_part(
+    storage: &mut Storage,
+    base: Baseline,
+    at: usize,
+    chunk: &mut Chunk,
+    run: RenewedRun<'_>,
+) -> Result<(), AllocError>
+    requires within { at + chunk.old.lines ≤ length base.traces.now }
+    requires chunk { IsChunkOf base.hashing (stretch at (at + chunk.old.lines) base.traces.now) chunk.old }
+    requires run { IsRunOf (length base.traces.now) run }
+    ensures stores { OnOk result (StoresAlso storage.old storage.new (done_in base.entry run.entry)) }
+    ensures chunk { IsStillChunk base.entry at chunk.old chunk.new }
+{
+    if run.from == at && run.to == at + chunk.lines {
+        return store_chunk(storage, base, at, chunk, run.news);
+    }
+    if run.from == run.to {
+        return Ok(());
+    }
+    let olds = part(base.traces, run.from, run.to);
+    store_renewed(storage, run.from, olds, run.news)
 }
 
 /// Whether each of these lines leaves what it left.

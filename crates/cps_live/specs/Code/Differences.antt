@@ -1,9 +1,12 @@
 -- For the code that compares final values, not part of what a reader believes: a test by the labels that have other ones.
-use Rattle.std.specs.Prelude.{◌≡◌, ℕ, Bool, true, false, not, is_some, List, Option, None, Some, option_map}
+use Rattle.std.specs.Prelude.{◌≡◌, ℕ, Bool, true, false, not, is_some, List, Option, None, Some, IfSome, map, option_map}
 use Rattle.std.specs.List.{list_any}
 use Rattle.cps_text.specs.declared.name.Name.{Name}
 use Rattle.cps_expr.specs.Value.{same_name}
+use Rattle.cps_state.specs.declared.hashing.Hashing.{Hashing}
 use Rattle.cps_state.specs.declared.key.Key.TheVariants as key
+use Rattle.cps_chunk.specs.declared.key_filter.KeyFilter.{KeyFilter}
+use Rattle.cps_chunk.specs.KeyFilter.{AreMarked, keys_named, mark_of}
 use Rattle.cps_final.specs.Code.Kept.{changes_in}
 use Rattle.cps_final.specs.Finals.{Named, label, setting, block, literal}
 use Rattle.cps_final.specs.Agreeing.{same_at}
@@ -33,6 +36,19 @@ AreExact differences = (named : Named) → passes differences named ≡ same_at 
 -- where none of the labels with other final values is read, all that lines name has the same, if they read no symbols but these
 abbrev pub AreKnown : NamesRead → Differences → Type 0
 AreKnown read differences = differences.unread ≡ true → (ts : List Trace) → HasReadBy read ts → all_pass (passes differences) (names_in ts) ≡ true
+
+-- the marks of labels
+abbrev pub marks_of : Hashing → List Name → List ℕ
+marks_of hashing labels = map (λ name. mark_of hashing (key.Label name)) labels
+
+-- the labels are sought by these
+abbrev pub AreSoughtBy : Hashing → Differences → Type 0
+AreSoughtBy hashing differences = IfSome differences.labels (λ labels. differences.sought ≡ marks_of hashing labels.items)
+
+-- all that lines name has the same final value whose labels have these marks
+abbrev pub PassMarked : Differences → KeyFilter → Type 0
+PassMarked differences marks =
+    (hashing : Hashing) (ts : List Trace) → AreSoughtBy hashing differences → AreMarked hashing marks (keys_named ts) → all_pass (passes differences) (names_in ts) ≡ true
 
 -- each block and each literal stands where it stood
 pub record PlacesStandIn (ends : Ends) : Type 0 where

@@ -1,5 +1,5 @@
 -- For the code that moves lines, not part of what a reader believes: a source of which two runs of lines have changed places.
-use Rattle.std.specs.Prelude.{◌≡◌, ◌*◌, ◌<◌, ◌≤◌, ℕ, List, [], length, sum, vec_len, vec_capacity, Result}
+use Rattle.std.specs.Prelude.{◌≡◌, ◌*◌, ◌<◌, ◌≤◌, ℕ, List, [], length, sum, vec_len, vec_capacity, Option, Result}
 use Rattle.cps_state.specs.Course.{Trace}
 use Rattle.cps_state.specs.Keys.{first_state}
 use Rattle.cps_state.specs.Work.{Counts}
@@ -12,6 +12,7 @@ use Rattle.cps_final.specs.Finals.{final_value}
 use Rattle.cps_final.specs.Outcome.{Outcome}
 use Rattle.cps_final.specs.Code.FinalsPatch.{patched}
 use Rattle.cps_final.specs.declared.finals_patch.FinalsPatch.{FinalsPatch}
+use Rattle.cps_final.specs.declared.storage.Storage.{Storage}
 use Rattle.cps_final.specs.contracts.finals.FinalsGathered.TheImpl.{gathered-value}
 use Rattle.cps_chunk.specs.Exchange.{exchanged_at}
 use Rattle.cps_chunk.specs.Code.Pieces.{ArePieces, lines_of}
@@ -26,6 +27,7 @@ use Rattle.cps_chunk.specs.Replayed.{redone}
 use Rattle.cps_chunk.specs.Code.Looks.{looks_again}
 use Rattle.cps_chunk.specs.Code.MoveLooks.{first_looks_moved}
 use Rattle.cps_chunk.specs.Touched.{touched_of_exchange}
+use Rattle.cps_live.specs.Code.Storing.{IsStoredBehind}
 use Rattle.cps_live.specs.declared.exchange.MovedParts.{MovedParts}
 use Rattle.cps_live.specs.declared.first_pass.FirstPass.{FirstPass}
 use Rattle.cps_live.specs.declared.kept_source.KeptSource.{KeptSource}
@@ -46,6 +48,10 @@ pub record IsMovedPass (lines : List (List ℕ)) (e : Exchange) (pass : FirstPas
   pub entered : pass.traces.entered.items ≡ []
   pub renewed : pass.traces.renewed.items ≡ replayed_moved lines e
   pub state : changed (changes_in pass.changes) (state_after first_state lines) ≡ state_after first_state (exchanged e lines)
+
+-- where blocks and literals stand behind it
+abbrev pub IsMovedStorage : List (List ℕ) → Exchange → Option Storage → Type 0
+IsMovedStorage lines e next = IsStoredBehind (traces_of lines) next (traces_of (exchanged e lines))
 
 -- the chunks of an exchange, with the old ones that they are
 pub record IsRecutMoved (kept : KeptSource) (e : Exchange) (pieces : List RecutChunk) : Type 0 where

@@ -14,7 +14,7 @@ use Rattle.cps_chunk.specs.Code.Looks.{items_from, looks_again}
 use Rattle.cps_chunk.specs.Code.Redo.{is_passed}
 use Rattle.cps_chunk.specs.Replayed.{redone}
 use Rattle.cps_chunk.specs.Code.Walk.{stretch}
-use Rattle.cps_live.specs.Code.Differences.{AreExact}
+use Rattle.cps_live.specs.Code.Differences.{AreSoughtBy, AreExact}
 use Rattle.cps_chunk.specs.declared.put.ChunkSplice.{ChunkSplice}
 use Rattle.cps_live.specs.declared.second_pass.SecondPass.{SecondPass}
 use Rattle.cps_live.specs.declared.second_pass.ComparedSpan.{ComparedSpan}
@@ -27,6 +27,7 @@ NameTheSame pass traces = list_all (λ trace. same_named (was_of pass.redo.ends)
 pub record IsExactPass (pass : SecondPass) : Type 0 where
   pub ends : pass.differences.ends ≡ pass.redo.ends
   pub exact : AreExact pass.differences
+  pub sought : AreSoughtBy pass.base.hashing pass.differences
   pub known : pass.differences.unread ≡ true → NameTheSame pass pass.base.traces.now
 
 -- what pass two makes now of the lines from one on up to another that are disturbed in it, of which these do something new

@@ -6,8 +6,9 @@ use Rattle.cps_chunk.specs.declared.chunk.Chunk.{Chunk}
 use Rattle.cps_chunk.specs.declared.put.ChunkSplice.{ChunkSplice}
 use Rattle.cps_chunk.specs.declared.sparse.SparseItem.{SparseItem}
 use Rattle.cps_chunk.specs.declared.walk.Baseline.{Baseline}
-use Rattle.cps_chunk.specs.Sparse.{renewed}
+use Rattle.cps_chunk.specs.Sparse.{AreWithin, renewed}
 use Rattle.cps_chunk.specs.Code.Walk.{stretch}
+use Rattle.cps_live.specs.declared.storage.RenewedRun.{RenewedRun}
 
 -- chunks of lines that were there, the first of them with so many in front of it
 pub record StandFrom (base : Baseline) (at : ℕ) (olds : List Chunk) : Type 0 where
@@ -24,6 +25,11 @@ pub record AreStillChunks (base : Baseline) (at : ℕ) (olds news : List Chunk) 
   pub chunks : AreChunksOf base.hashing news (stretch at (at + sum (lengths_of olds)) base.traces.now)
   pub lengths : lengths_of news ≡ lengths_of olds
 
+-- chunks of all lines
+pub record AreAllChunks (base : Baseline) (olds : List Chunk) : Type 0 where
+  pub few : length base.traces.now < 2 ^ 64
+  pub chunks : AreChunksOf base.hashing olds base.traces.now
+
 -- chunks of all lines, of which some go, with lines in front of the edit and behind it
 pub record CutsAround (base : Baseline) (cut : ChunkSplice) (olds : List Chunk) : Type 0 where
   pub chunks : AreChunksOf base.hashing olds base.traces.now
@@ -39,3 +45,13 @@ pub record CutsAround (base : Baseline) (cut : ChunkSplice) (olds : List Chunk) 
 -- what so many lines from a place on do, of which these do something new
 abbrev pub renewed_in : Baseline → ℕ → ℕ → List (SparseItem Trace) → List Trace
 renewed_in base at count news = renewed at news (stretch at (at + count) base.traces.now)
+
+-- lines of a source of so many, of which these do something new
+pub record IsRunOf (count : ℕ) (run : RenewedRun) : Type 0 where
+  pub ordered : run.from ≤ run.to
+  pub within : run.to ≤ count
+  pub news : AreWithin run.from run.to run.news.now
+
+-- what they do
+abbrev pub done_in : Baseline → RenewedRun → List Trace
+done_in base run = renewed run.from run.news.now (stretch run.from run.to base.traces.now)

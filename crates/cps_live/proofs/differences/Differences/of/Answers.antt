@@ -10,5 +10,5 @@ returns-clause-exact c =
 
 pub returns-clause-known : goal.returns-clause-known
 returns-clause-known c = λ yes ts.
-    let none = ap (list_any (has_name c.args.read.now)) (sym c.deref.ensures.value) ∙ sym c.has_read-unread.ensures ∙ none-true c.has_read-unread.result yes in
+    let none = ap (list_any (has_name c.args.read.now)) (sym c.deref-2.ensures.value) ∙ sym c.has_read-unread.ensures ∙ none-true c.has_read-unread.result yes in
     known c.args.ends c.args.read.now c.in_ok-labels.labels.items none ts

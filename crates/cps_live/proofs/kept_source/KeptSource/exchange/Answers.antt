@@ -1,6 +1,5 @@
 use Rattle.std.proofs.Common.{arith, ◌≡◌, ℕ, List, length, sym, ap, subst, ◌∙◌}
 use Rattle.std.specs.Prelude.{sum}
-use Rattle.cps_state.specs.Keys.{first_state}
 use Rattle.cps_final.specs.Code.Kept.{changes_in}
 use Rattle.cps_edit.specs.Exchange.{exchanged}
 use Rattle.cps_edit.specs.Numbers.{exchanged_numbers}
@@ -10,11 +9,10 @@ use Rattle.cps_final.specs.contracts.finals.FinalsGathered.TheImpl.{gathered-val
 use Rattle.cps_chunk.specs.Exchange.{exchanged_at}
 use Rattle.cps_chunk.specs.Code.Pieces.{ArePieces}
 use Rattle.cps_edit.specs.Passes.{traces_of}
-use Rattle.cps_edit.proofs.SpliceLemmas.{length-traces_from}
 use Rattle.cps_chunk.specs.Code.Chunk.{lengths_of}
 use Rattle.cps_chunk.specs.Code.Moved.{replayed_moved}
-use Rattle.cps_live.specs.Code.Exchanged.{redone_moved}
-use Rattle.cps_live.proofs.ExchangeLemmas.{lines-within, looks-made, made-moved, moved-looked_both, moved-looked_first, news-behind, news-places, steps-both, steps-refused, stored-moved, twos-made}
+use Rattle.cps_live.specs.Code.Exchanged.{IsMovedStorage, redone_moved}
+use Rattle.cps_live.proofs.ExchangeLemmas.{lines-within, looks-made, made-moved, moved-looked_both, moved-looked_first, news-places, steps-both, steps-refused, still-next, twos-made}
 use Rattle.cps_live.proofs.PatchedLemmas.{finals-patched, may-stand}
 use Rattle.cps_live.proofs.kept_source.KeptSource.exchange.Goals as goal
 
@@ -24,27 +22,20 @@ returns-in_err-pass-clause-looked c =
 
 -- ---- where blocks and literals stand
 
-pub storage_moved-requires-clause-runs : goal.storage_moved-requires-clause-runs
-storage_moved-requires-clause-runs c =
-    let lines = c.args.self.now.lines.items in
-    let e = c.args.exchange in
-    let within = lines-within c.args.self.now e c.requires.runs in
-    let one = c.pass_one_moved.ensures.still in
-    let did : c.baseline.result.traces.now ≡ traces_of lines = c.baseline.ensures.traces ∙ one.traces ∙ c.requires.kept.lines.did in
-    let long : length c.baseline.result.traces.now ≡ length lines = ap length did ∙ length-traces_from first_state lines in
-    record { first = c.requires.runs.first; second = c.requires.runs.second; within = omega (arith, long, within.all) }
+pub storage_of_move-requires-clause-runs : goal.storage_of_move-requires-clause-runs
+storage_of_move-requires-clause-runs c =
+    let lines = c.pass_one_moved.ensures.still.lines in
+    let within = lines-within c.args.self.now c.args.exchange c.requires.runs in
+    record {
+      first = c.requires.runs.first;
+      second = c.requires.runs.second;
+      within = omega (arith, ap length lines, within.all, c.pass_one_moved.new.self.lines.ok.0);
+    }
 
-pub storage_moved-requires-clause-places : goal.storage_moved-requires-clause-places
-storage_moved-requires-clause-places c =
-    let lines = c.args.self.now.lines.items in
-    let e = c.args.exchange in
-    let within = lines-within c.args.self.now e c.requires.runs in
-    let one = c.pass_one_moved.ensures.still in
-    let did : c.baseline.result.traces.now ≡ traces_of lines = c.baseline.ensures.traces ∙ one.traces ∙ c.requires.kept.lines.did in
-    let pass = c.in_ok-pass.ensures.pass in
-    let is : c.deref.result.now ≡ replayed_moved lines e = c.deref.ensures.value ∙ ap (λ v. v.items) c.into_renewed-traces.ensures ∙ pass.renewed in
-    let long : length c.baseline.result.traces.now ≡ length lines = ap length did ∙ length-traces_from first_state lines in
-    news-behind lines e within c.deref.result.now is (length c.baseline.result.traces.now) long
+pub storage_of_move-requires-clause-traces : goal.storage_of_move-requires-clause-traces
+storage_of_move-requires-clause-traces c =
+    let lines = c.pass_one_moved.ensures.still.lines in
+    c.deref.ensures.value ∙ ap (λ v. v.items) c.into_renewed-traces.ensures ∙ c.in_ok-pass.ensures.pass.renewed ∙ ap (λ ls. replayed_moved ls c.args.exchange) (sym lines)
 
 pub returns-in_err-storage-clause-looked : goal.returns-in_err-storage-clause-looked
 returns-in_err-storage-clause-looked c =
@@ -62,7 +53,7 @@ exchange-requires-clause-stands c =
 
 pub pass_again-requires-clause-news : goal.pass_again-requires-clause-news
 pass_again-requires-clause-news c =
-    let still = c.make_room_to_patch.ensures.still.lines ∙ c.pass_one_moved.ensures.still.lines in
+    let still = c.make_room_to_patch.ensures.still.lines ∙ c.storage_of_move.ensures.still.still.lines ∙ c.pass_one_moved.ensures.still.lines in
     let here = c.deref-2.ensures.value ∙ ap (λ v. v.items) c.into_renewed-traces.ensures ∙ c.in_ok-pass.ensures.pass.renewed in
     let within = lines-within c.args.self.now c.args.exchange c.requires.runs in
     news-places c.args.self.now.lines.items c.args.exchange within c.deref-2.result.now here _ (omega (arith, ap length still, c.make_room_to_patch.new.self.lines.ok.0))
@@ -74,14 +65,12 @@ commit_moved-requires-clause-parts c =
     let lines = c.args.self.now.lines.items in
     let e = c.args.exchange in
     let within = lines-within c.args.self.now e c.requires.runs in
-    let one = c.pass_one_moved.ensures.still in
-    let did : c.baseline.result.traces.now ≡ traces_of lines = c.baseline.ensures.traces ∙ one.traces ∙ c.requires.kept.lines.did in
+    let one = still-next c.pass_one_moved.ensures.still c.storage_of_move.ensures.still.still in
     let pass = c.in_ok-pass.ensures.pass in
-    let is : c.deref.result.now ≡ replayed_moved lines e = c.deref.ensures.value ∙ ap (λ v. v.items) c.into_renewed-traces.ensures ∙ pass.renewed in
     let two = c.make_room_to_patch.ensures.still in
     let kept : gathered-value.it c.make_room_to_patch.new.self.finals ≡ finals_of (traces_of lines) =
     c.make_room_to_patch.ensures.kept.finals ∙ ap (λ ls. finals_of (traces_of ls)) (two.lines ∙ one.lines) in
-    let stored = stored-moved lines e within c.in_ok-storage.storage c.baseline.result.traces.now c.deref.result.now did is c.in_ok-storage.ensures in
+    let stored = subst (λ ls. IsMovedStorage ls e c.in_ok-storage.storage) c.pass_one_moved.ensures.still.lines c.in_ok-storage.ensures.storage in
     let there : gathered-value.it c.exchange.new.self ≡ finals_of (traces_of (exchanged e lines)) =
     c.exchange.ensures.now ∙ ap (patched (record { changes = c.in_ok-pass.pass.changes; storage = c.in_ok-storage.storage })) kept
     ∙ finals-patched lines (exchanged e lines) c.in_ok-storage.storage (changes_in c.in_ok-pass.pass.changes) stored pass.state in
@@ -110,14 +99,12 @@ returns-in-Ok-clause-kept c =
     let lines = c.args.self.now.lines.items in
     let e = c.args.exchange in
     let within = lines-within c.args.self.now e c.requires.runs in
-    let one = c.pass_one_moved.ensures.still in
-    let did : c.baseline.result.traces.now ≡ traces_of lines = c.baseline.ensures.traces ∙ one.traces ∙ c.requires.kept.lines.did in
+    let one = still-next c.pass_one_moved.ensures.still c.storage_of_move.ensures.still.still in
     let pass = c.in_ok-pass.ensures.pass in
-    let is : c.deref.result.now ≡ replayed_moved lines e = c.deref.ensures.value ∙ ap (λ v. v.items) c.into_renewed-traces.ensures ∙ pass.renewed in
     let two = c.make_room_to_patch.ensures.still in
     let kept : gathered-value.it c.make_room_to_patch.new.self.finals ≡ finals_of (traces_of lines) =
     c.make_room_to_patch.ensures.kept.finals ∙ ap (λ ls. finals_of (traces_of ls)) (two.lines ∙ one.lines) in
-    let stored = stored-moved lines e within c.in_ok-storage.storage c.baseline.result.traces.now c.deref.result.now did is c.in_ok-storage.ensures in
+    let stored = subst (λ ls. IsMovedStorage ls e c.in_ok-storage.storage) c.pass_one_moved.ensures.still.lines c.in_ok-storage.ensures.storage in
     let there : gathered-value.it c.exchange.new.self ≡ finals_of (traces_of (exchanged e lines)) =
     c.exchange.ensures.now ∙ ap (patched (record { changes = c.in_ok-pass.pass.changes; storage = c.in_ok-storage.storage })) kept
     ∙ finals-patched lines (exchanged e lines) c.in_ok-storage.storage (changes_in c.in_ok-pass.pass.changes) stored pass.state in
@@ -133,14 +120,12 @@ returns-in-Ok-clause-steps c =
     let lines = c.args.self.now.lines.items in
     let e = c.args.exchange in
     let within = lines-within c.args.self.now e c.requires.runs in
-    let one = c.pass_one_moved.ensures.still in
-    let did : c.baseline.result.traces.now ≡ traces_of lines = c.baseline.ensures.traces ∙ one.traces ∙ c.requires.kept.lines.did in
+    let one = still-next c.pass_one_moved.ensures.still c.storage_of_move.ensures.still.still in
     let pass = c.in_ok-pass.ensures.pass in
-    let is : c.deref.result.now ≡ replayed_moved lines e = c.deref.ensures.value ∙ ap (λ v. v.items) c.into_renewed-traces.ensures ∙ pass.renewed in
     let two = c.make_room_to_patch.ensures.still in
     let kept : gathered-value.it c.make_room_to_patch.new.self.finals ≡ finals_of (traces_of lines) =
     c.make_room_to_patch.ensures.kept.finals ∙ ap (λ ls. finals_of (traces_of ls)) (two.lines ∙ one.lines) in
-    let stored = stored-moved lines e within c.in_ok-storage.storage c.baseline.result.traces.now c.deref.result.now did is c.in_ok-storage.ensures in
+    let stored = subst (λ ls. IsMovedStorage ls e c.in_ok-storage.storage) c.pass_one_moved.ensures.still.lines c.in_ok-storage.ensures.storage in
     let there : gathered-value.it c.exchange.new.self ≡ finals_of (traces_of (exchanged e lines)) =
     c.exchange.ensures.now ∙ ap (patched (record { changes = c.in_ok-pass.pass.changes; storage = c.in_ok-storage.storage })) kept
     ∙ finals-patched lines (exchanged e lines) c.in_ok-storage.storage (changes_in c.in_ok-pass.pass.changes) stored pass.state in
@@ -156,14 +141,12 @@ returns-in-Ok-clause-looked c =
     let lines = c.args.self.now.lines.items in
     let e = c.args.exchange in
     let within = lines-within c.args.self.now e c.requires.runs in
-    let one = c.pass_one_moved.ensures.still in
-    let did : c.baseline.result.traces.now ≡ traces_of lines = c.baseline.ensures.traces ∙ one.traces ∙ c.requires.kept.lines.did in
+    let one = still-next c.pass_one_moved.ensures.still c.storage_of_move.ensures.still.still in
     let pass = c.in_ok-pass.ensures.pass in
-    let is : c.deref.result.now ≡ replayed_moved lines e = c.deref.ensures.value ∙ ap (λ v. v.items) c.into_renewed-traces.ensures ∙ pass.renewed in
     let two = c.make_room_to_patch.ensures.still in
     let kept : gathered-value.it c.make_room_to_patch.new.self.finals ≡ finals_of (traces_of lines) =
     c.make_room_to_patch.ensures.kept.finals ∙ ap (λ ls. finals_of (traces_of ls)) (two.lines ∙ one.lines) in
-    let stored = stored-moved lines e within c.in_ok-storage.storage c.baseline.result.traces.now c.deref.result.now did is c.in_ok-storage.ensures in
+    let stored = subst (λ ls. IsMovedStorage ls e c.in_ok-storage.storage) c.pass_one_moved.ensures.still.lines c.in_ok-storage.ensures.storage in
     let there : gathered-value.it c.exchange.new.self ≡ finals_of (traces_of (exchanged e lines)) =
     c.exchange.ensures.now ∙ ap (patched (record { changes = c.in_ok-pass.pass.changes; storage = c.in_ok-storage.storage })) kept
     ∙ finals-patched lines (exchanged e lines) c.in_ok-storage.storage (changes_in c.in_ok-pass.pass.changes) stored pass.state in
@@ -181,7 +164,7 @@ returns-in-Ok-clause-looked c =
 pub returns-in-Err-clause-kept : goal.returns-in-Err-clause-kept
 returns-in-Err-clause-kept c =
     let lines = c.args.self.now.lines.items in
-    let one = c.pass_one_moved.ensures.still in
+    let one = still-next c.pass_one_moved.ensures.still c.storage_of_move.ensures.still.still in
     let two = c.make_room_to_patch.ensures.still in
     let kept : gathered-value.it c.make_room_to_patch.new.self.finals ≡ finals_of (traces_of lines) =
     c.make_room_to_patch.ensures.kept.finals ∙ ap (λ ls. finals_of (traces_of ls)) (two.lines ∙ one.lines) in
@@ -198,14 +181,12 @@ returns-in-Err-clause-steps c =
     let lines = c.args.self.now.lines.items in
     let e = c.args.exchange in
     let within = lines-within c.args.self.now e c.requires.runs in
-    let one = c.pass_one_moved.ensures.still in
-    let did : c.baseline.result.traces.now ≡ traces_of lines = c.baseline.ensures.traces ∙ one.traces ∙ c.requires.kept.lines.did in
+    let one = still-next c.pass_one_moved.ensures.still c.storage_of_move.ensures.still.still in
     let pass = c.in_ok-pass.ensures.pass in
-    let is : c.deref.result.now ≡ replayed_moved lines e = c.deref.ensures.value ∙ ap (λ v. v.items) c.into_renewed-traces.ensures ∙ pass.renewed in
     let two = c.make_room_to_patch.ensures.still in
     let kept : gathered-value.it c.make_room_to_patch.new.self.finals ≡ finals_of (traces_of lines) =
     c.make_room_to_patch.ensures.kept.finals ∙ ap (λ ls. finals_of (traces_of ls)) (two.lines ∙ one.lines) in
-    let stored = stored-moved lines e within c.in_ok-storage.storage c.baseline.result.traces.now c.deref.result.now did is c.in_ok-storage.ensures in
+    let stored = subst (λ ls. IsMovedStorage ls e c.in_ok-storage.storage) c.pass_one_moved.ensures.still.lines c.in_ok-storage.ensures.storage in
     let there : gathered-value.it c.exchange.new.self ≡ finals_of (traces_of (exchanged e lines)) =
     c.exchange.ensures.now ∙ ap (patched (record { changes = c.in_ok-pass.pass.changes; storage = c.in_ok-storage.storage })) kept
     ∙ finals-patched lines (exchanged e lines) c.in_ok-storage.storage (changes_in c.in_ok-pass.pass.changes) stored pass.state in
@@ -221,14 +202,12 @@ returns-in-Err-clause-looked c =
     let lines = c.args.self.now.lines.items in
     let e = c.args.exchange in
     let within = lines-within c.args.self.now e c.requires.runs in
-    let one = c.pass_one_moved.ensures.still in
-    let did : c.baseline.result.traces.now ≡ traces_of lines = c.baseline.ensures.traces ∙ one.traces ∙ c.requires.kept.lines.did in
+    let one = still-next c.pass_one_moved.ensures.still c.storage_of_move.ensures.still.still in
     let pass = c.in_ok-pass.ensures.pass in
-    let is : c.deref.result.now ≡ replayed_moved lines e = c.deref.ensures.value ∙ ap (λ v. v.items) c.into_renewed-traces.ensures ∙ pass.renewed in
     let two = c.make_room_to_patch.ensures.still in
     let kept : gathered-value.it c.make_room_to_patch.new.self.finals ≡ finals_of (traces_of lines) =
     c.make_room_to_patch.ensures.kept.finals ∙ ap (λ ls. finals_of (traces_of ls)) (two.lines ∙ one.lines) in
-    let stored = stored-moved lines e within c.in_ok-storage.storage c.baseline.result.traces.now c.deref.result.now did is c.in_ok-storage.ensures in
+    let stored = subst (λ ls. IsMovedStorage ls e c.in_ok-storage.storage) c.pass_one_moved.ensures.still.lines c.in_ok-storage.ensures.storage in
     let there : gathered-value.it c.exchange.new.self ≡ finals_of (traces_of (exchanged e lines)) =
     c.exchange.ensures.now ∙ ap (patched (record { changes = c.in_ok-pass.pass.changes; storage = c.in_ok-storage.storage })) kept
     ∙ finals-patched lines (exchanged e lines) c.in_ok-storage.storage (changes_in c.in_ok-pass.pass.changes) stored pass.state in

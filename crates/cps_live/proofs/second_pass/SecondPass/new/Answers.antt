@@ -14,5 +14,6 @@ returns-clause-exact c =
     record {
       ends = ends;
       exact = h.exact;
+      sought = h.sought;
       known = λ yes. names-same (was_of pass.redo.ends) (now_of pass.redo.ends) ts (sym (exact-same pass ends h.exact (names_in ts)) ∙ h.known yes ts c.requires);
     }

@@ -10,7 +10,7 @@ loop-chunk-preserved c =
     let pass = c.args.self.now in
     let quiet = IsQuiet (was_of pass.redo.ends) (now_of pass.redo.ends) pass.base.hashing in
     All-more quiet c.args.chunks.now c.loop-chunk.chunk-index c.chunk-item.result c.loop-chunk-test.true c.loop-chunk.invariant
-    (subst quiet c.chunk-item.is (exact-quiet pass c.requires c.chunk-item.result (c.may_have.ensures c.if-may_have.false)))
+    (subst quiet c.chunk-item.is (exact-quiet pass c.requires c.chunk-item.result (λ us marked. c.may_have.ensures c.if-may_have.false pass.base.hashing us c.requires.sought marked)))
 
 pub returns : goal.returns
 returns c = λ yes traces chunks.

@@ -8,7 +8,7 @@ use Rattle.cps_live.proofs.second_pass.SecondPass.passes.Goals as goal
 pub returns-then-not-may_have-clause-passes : goal.returns-then-not-may_have-clause-passes
 returns-then-not-may_have-clause-passes c =
     let out : c.may_have.result ≡ false = search rules in
-    sym (sym (exact-names c.args.self.now c.requires.exact (names_in c.args.olds.now)) ∙ c.may_have.ensures out c.args.olds.now c.requires.chunk.names)
+    sym (sym (exact-names c.args.self.now c.requires.exact (names_in c.args.olds.now)) ∙ c.may_have.ensures out c.args.self.now.base.hashing c.args.olds.now c.requires.exact.sought c.requires.chunk.names)
 
 pub returns-in-Some-clause-passes : goal.returns-in-Some-clause-passes
 returns-in-Some-clause-passes c =
