@@ -84,6 +84,9 @@ def check_links(root, texts):
         name, row = element.get("id"), said(element)
         if name in lines and row.split(" ", 1)[0] != name or name not in lines and row.split(" ", 1)[0].lstrip("0") != name[1:].lstrip("0"):
             raise Fault(f"the row at {name!r} is {row!r}")
+    for element in (element for element in root.iter() if (element.get("id") or "").startswith("b-")):
+        if local(element) != "small" or said(element).split(" ", 1)[0] != element.get("id")[2:]:
+            raise Fault(f"the block at {element.get('id')!r} is {said(element)!r}")
     words = {row.split(" ", 1)[0].lstrip("0") or "0" for row in texts["binary"].splitlines()[1:]}
     if {name[1:] for name in known if re.fullmatch(r"w\d+", name)} != words:
         raise Fault("the words that can be led to aren't those of the binary text")
@@ -93,6 +96,37 @@ def check_links(root, texts):
             raise Fault(f"the link {words!r} leads to {target!r}")
         if words in lines and target[1:].isdigit() and target[1:] != lines[words]:
             raise Fault(f"the symbol {words} leads to line {target[1:]}, and line {lines[words]} defines it")
+
+
+def codes_by_word(listing):
+    """By each address the codes of its rows in their order, each with the number of its line."""
+    codes, line = {}, ""
+    for row in listing.split("\n"):
+        line = row[37:43].strip() if row[37:43].strip().isdigit() else line
+        address, code = row[9:15].strip(), row[16:37].strip()
+        if address and code:
+            codes.setdefault(address.lstrip("0") or "0", []).append((code, line))
+    return codes
+
+
+def lines_of_zeros(listing):
+    """The numbers of lines of BSSZ, whose words have no row of their own."""
+    return {row[37:43].strip() for row in listing.split("\n") if re.search(r"\bBSSZ\b", row[43:], re.IGNORECASE)}
+
+
+def check_makers(root, texts):
+    """Where a word begins with the codes of its rows, the digits of the last lead to its line. Bits of a VFD may end in a digit, which leads to the line behind."""
+    codes, zeros = codes_by_word(texts["listing"]), lines_of_zeros(texts["listing"])
+    for word in (element for element in root.iter() if re.fullmatch(r"w\d+", element.get("id") or "")):
+        here, digits = codes.get(word.get("id")[1:], []), said(word).split(" ", 1)[1].strip()
+        if not here or not digits.startswith("".join(code for code, _ in here)) or any(len(code) not in (4, 5, 10, 20) for code, _ in here):
+            continue
+        code, line = here[-1]
+        pieces = [(said(link), link.get("href")[1:]) for link in word.iter() if local(link) == "a"][1:]
+        if any(target in zeros for _, target in pieces):
+            continue
+        if not any((code in piece or code[:-1] == piece) and line == target for piece, target in pieces):
+            raise Fault(f"no digits of the word {word.get('id')} lead to line {line}, which has the code {code}")
 
 
 def check_page(page, texts, causes):
@@ -105,4 +139,5 @@ def check_page(page, texts, causes):
         raise Fault("a script, or an address of another page")
     check_sections(page, root, texts)
     check_links(root, texts)
+    check_makers(root, texts)
     check_notes(root, texts, causes)

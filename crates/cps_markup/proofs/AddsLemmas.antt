@@ -7,7 +7,7 @@ use Rattle.cps_markup.specs.declared.place.Place.{Place}
 use Rattle.cps_markup.specs.declared.tag.Tag.{Tag}
 use Rattle.cps_markup.specs.declared.tag.Tag.TheVariants as tag
 use Rattle.cps_markup.specs.Markup.{Attribute, Markup, nothing, says, element, Link, written, said, places, links, opening, closing, escaped, is_note, identified, targeted}
-use Rattle.cps_markup.specs.Code.Adding.{Adds, fold_attributes, row_attributes, row_tag}
+use Rattle.cps_markup.specs.Code.Adding.{Adds, fold_attributes, front_attributes, row_attributes, row_tag}
 
 -- ---- markup behind markup
 
@@ -102,6 +102,12 @@ module _ (P : Link → Type 0) where
   adds-row true false s old middle later new begun a ended = adds-element tag.Summary (row_attributes false) s [] old middle later new begun a ended (all-none P)
   adds-row false true s old middle later new begun a ended = adds-element tag.Row (row_attributes true) s [] old middle later new begun a ended (all-none P)
   adds-row false false s old middle later new begun a ended = adds-element tag.Row (row_attributes false) s [] old middle later new begun a ended (all-none P)
+
+  -- what stands before the source, in a named block or not
+  pub adds-front : (is_in_block : Bool) (s old middle later new : List ℕ) → middle ≡ old ++ opening tag.Front (front_attributes is_in_block) → Adds P s [] middle later
+      → new ≡ later ++ closing tag.Front → Adds P s [] old new
+  adds-front true s old middle later new begun a ended = adds-element tag.Front (front_attributes true) s [] old middle later new begun a ended (all-none P)
+  adds-front false s old middle later new begun a ended = adds-element tag.Front (front_attributes false) s [] old middle later new begun a ended (all-none P)
 
   -- folded rows, whether they are unfolded at first or not
   pub adds-fold : (is_unfolded : Bool) (s old middle later new : List ℕ) → middle ≡ old ++ opening tag.Fold (fold_attributes is_unfolded) → Adds P s [] middle later

@@ -1,9 +1,11 @@
 -- Characters that are written by name, one by one.
 use Prim.Native.Char.{code}
-use Rattle.std.proofs.Common.{◌≡◌, ℕ, true, false, ◌&&◌, ◌==◌, refl, sym, ap, ◌∙◌, List, [], ◌∷◌, ◌++◌}
+use Rattle.std.proofs.Common.{◌≡◌, ℕ, ◌+◌, ◌%◌, ◌<◌, ◌≤◌, ◌^◌, true, false, ◌&&◌, ◌==◌, refl, sym, ap, ◌∙◌, List, [], ◌∷◌, ◌++◌, decimal, arith}
 use Rattle.std.specs.Prelude.{codes, if◌then◌else◌, not, ◌||◌}
 use Rattle.std.specs.List.{list_all}
-use Rattle.std.proofs.lemmas.Bool.{eqb-true}
+use Rattle.std.proofs.lemmas.Bool.{eqb-true, ne_eqb}
+use Rattle.std.proofs.lemmas.Fmt.{decimal_by_steps}
+use Rattle.std.proofs.lemmas.List.Concat.{flat_map-append}
 use Rattle.std.proofs.lemmas.List.Folds.{list_all-append}
 use Rattle.cps_markup.specs.Markup.{character_text, escaped}
 use Rattle.cps_markup.specs.EscapingLaws.{is_harmless, NoTextIsMarkup, read_back, TextIsReadBack}
@@ -60,3 +62,18 @@ read-character c rest =
 pub text-is-read-back : TextIsReadBack
 text-is-read-back [] = refl
 text-is-read-back (c ∷ text) = read-character c (escaped text) ∙ ap (λ l. c ∷ l) (text-is-read-back text)
+
+-- ---- no digit is written by name
+
+digit-alone : (d : ℕ) → 48 ≤ d → d ≤ 57 → escaped (d ∷ []) ≡ d ∷ []
+digit-alone d low high =
+    let ampersand : (d == 38) ≡ false = ne_eqb d 38 (λ e. omega arith) in
+    let less : (d == 60) ≡ false = ne_eqb d 60 (λ e. omega arith) in
+    let greater : (d == 62) ≡ false = ne_eqb d 62 (λ e. omega arith) in
+    let quote : (d == 34) ≡ false = ne_eqb d 34 (λ e. omega arith) in
+    λ i. (if ampersand i then codes "&amp;" else if less i then codes "&lt;" else if greater i then codes "&gt;" else if quote i then codes "&quot;" else d ∷ []) ++ []
+
+pub number-alone : (n : ℕ) → n < 2 ^ 64 → escaped (decimal n) ≡ decimal n
+number-alone = decimal_by_steps (λ n text. escaped text ≡ text)
+    (λ n small. digit-alone (48 + n) (omega arith) (omega arith))
+    (λ n text big h. flat_map-append character_text text ((48 + n % 10) ∷ []) ∙ (λ i. h i ++ digit-alone (48 + n % 10) (omega arith) (omega arith) i))

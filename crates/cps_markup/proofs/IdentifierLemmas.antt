@@ -10,7 +10,7 @@ use Rattle.cps_text.specs.declared.name.Name.{Name}
 use Rattle.cps_text.specs.Name.{name_of, name_text}
 use Rattle.cps_text.specs.Symbol.{begins_symbol, continues_symbol, is_generated, is_name, is_register, is_symbol, padded}
 use Rattle.cps_text.specs.Text.{among, capital, capitals, is_digit}
-use Rattle.cps_markup.specs.declared.place.Place.TheVariants.{Line, Symbol, Word, Section}
+use Rattle.cps_markup.specs.declared.place.Place.TheVariants.{Line, Symbol, Word, Block, Section}
 use Rattle.cps_markup.specs.declared.place.PageSection.{PageSection}
 use Rattle.cps_markup.specs.declared.place.PageSection.TheVariants as page
 use Rattle.cps_markup.specs.Places.{section_name}
@@ -155,6 +155,29 @@ word-no-section n page.Symbols small same = let e : 119 ≡ 115 = ap (λ t. get_
 word-no-section n page.Flags small same = let e : 119 ≡ 102 = ap (λ t. get_or t 0 0) same in omega (arith, e)
 word-no-section n page.Instructions small same = let e : 119 ≡ 105 = ap (λ t. get_or t 0 0) same in omega (arith, e)
 
+-- ---- blocks
+
+block-no-symbol : (text : List ℕ) (name : Name) → name_of (name_text name) ≡ Some name → codes "b-" ++ text ≡ name_text name → ⊥
+block-no-symbol text name written same =
+    let is = named-is (name_text name) name written in
+    let small : get_or name.bytes 0 0 ≡ 98 = head-taken _ name.bytes 98 (codes "-" ++ text) (sym same) in
+    let large : get_or name.bytes 0 0 ≡ 66 = ap (λ (m : Name). get_or m.bytes 0 0) is ∙ ap (λ t. get_or (padded (capitals t)) 0 0) (sym same) in
+    omega (arith, small, large)
+
+block-no-line : (text : List ℕ) (m : ℕ) → m < 2 ^ 64 → codes "b-" ++ text ≡ decimal m → ⊥
+block-no-line text m small same = let b = number-begins m small in let e : b.0 ≡ 98 = ap (λ t. get_or t 0 0) (sym b.1.1.0 ∙ sym same) in let h = b.1.1.1.1 in omega (arith, e, h)
+
+block-no-word : (text : List ℕ) (n : ℕ) → codes "b-" ++ text ≡ codes "w" ++ decimal n → ⊥
+block-no-word text n same = let e : 98 ≡ 119 = ap (λ t. get_or t 0 0) same in omega (arith, e)
+
+block-no-section : (text : List ℕ) (section : PageSection) → codes "b-" ++ text ≡ section_name section → ⊥
+block-no-section text page.Memory same = let e : 98 ≡ 109 = ap (λ t. get_or t 0 0) same in omega (arith, e)
+block-no-section text page.Listing same = let e : 98 ≡ 108 = ap (λ t. get_or t 0 0) same in omega (arith, e)
+block-no-section text page.Words same = let e : 98 ≡ 119 = ap (λ t. get_or t 0 0) same in omega (arith, e)
+block-no-section text page.Symbols same = let e : 98 ≡ 115 = ap (λ t. get_or t 0 0) same in omega (arith, e)
+block-no-section text page.Flags same = let e : 98 ≡ 102 = ap (λ t. get_or t 0 0) same in omega (arith, e)
+block-no-section text page.Instructions same = let e : 98 ≡ 105 = ap (λ t. get_or t 0 0) same in omega (arith, e)
+
 -- ---- places
 
 small : (n : ℕ) → n < 2 ^ 32 → n < 2 ^ 64
@@ -180,3 +203,12 @@ identifiers-differ (Section a) (Line b) wa wb same = absurd (number-no-section b
 identifiers-differ (Section a) (Symbol b) wa wb same = absurd (symbol-no-section b a wb (sym same))
 identifiers-differ (Section a) (Word b) wa wb same = absurd (word-no-section b a (small b wb) (sym same))
 identifiers-differ (Section a) (Section b) wa wb same = ap Section (same-section a b same)
+identifiers-differ (Line a) (Block b) wa wb same = absurd (block-no-line (name_text b) a (small a wa) (sym same))
+identifiers-differ (Symbol a) (Block b) wa wb same = absurd (block-no-symbol (name_text b) a wa (sym same))
+identifiers-differ (Word a) (Block b) wa wb same = absurd (block-no-word (name_text b) a (sym same))
+identifiers-differ (Section a) (Block b) wa wb same = absurd (block-no-section (name_text b) a (sym same))
+identifiers-differ (Block a) (Line b) wa wb same = absurd (block-no-line (name_text a) b (small b wb) same)
+identifiers-differ (Block a) (Symbol b) wa wb same = absurd (block-no-symbol (name_text a) b wb same)
+identifiers-differ (Block a) (Word b) wa wb same = absurd (block-no-word (name_text a) b same)
+identifiers-differ (Block a) (Section b) wa wb same = absurd (block-no-section (name_text a) b same)
+identifiers-differ (Block a) (Block b) wa wb same = ap Block (same_Some a b (sym wa ∙ ap (λ t. name_of (drop 2 t)) same ∙ wb))

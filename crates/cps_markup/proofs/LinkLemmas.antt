@@ -1,7 +1,7 @@
 -- Links that may be written.
 use Rattle.std.proofs.Common.{◌≡◌, ℕ, subst, List}
 use Rattle.cps_text.specs.declared.name.Name.{Name}
-use Rattle.cps_markup.specs.declared.place.Place.TheVariants.{Line, Symbol, Word, Section}
+use Rattle.cps_markup.specs.declared.place.Place.TheVariants.{Line, Symbol, Word, Block, Section}
 use Rattle.cps_markup.specs.declared.place.PageSection.{PageSection}
 use Rattle.cps_markup.specs.declared.targets.Targets.{Targets}
 use Rattle.cps_markup.specs.Links.{HasPlace, IsHome, Leads}
@@ -24,3 +24,6 @@ leads-section targets words section = record { there = tt; home = λ other same.
 
 pub leads-word : (targets : Targets) (words : List ℕ) (digits : ℕ) → HasPlace targets (Word digits) → Leads targets (record { place = Word digits; words = words })
 leads-word targets words digits there = record { there = there; home = λ other same. absurd (let e : Word digits ≡ Line other = same in cc) }
+
+pub leads-block : (targets : Targets) (words : List ℕ) (name : Name) → HasPlace targets (Block name) → Leads targets (record { place = Block name; words = words })
+leads-block targets words name there = record { there = there; home = λ other same. absurd (let e : Block name ≡ Line other = same in cc) }

@@ -5,7 +5,7 @@ use Rattle.cps_text.specs.declared.name.Name.{Name}
 use Rattle.cps_text.specs.Name.{name_of}
 use Rattle.cps_expr.specs.Value.{same_name}
 use Rattle.cps_markup.specs.declared.place.Place.{Place}
-use Rattle.cps_markup.specs.declared.place.Place.TheVariants.{Line, Symbol, Word, Section}
+use Rattle.cps_markup.specs.declared.place.Place.TheVariants.{Line, Symbol, Word, Block, Section}
 use Rattle.cps_markup.specs.declared.targets.Entry.{Entry}
 use Rattle.cps_markup.specs.declared.targets.Targets.{Targets}
 use Rattle.cps_markup.specs.declared.targets.WordEntry.{WordEntry}
@@ -23,11 +23,12 @@ is_defined name number entry = same_name name entry.name && entry.line == number
 abbrev pub is_at : ℕ → WordEntry → Bool
 is_at digits word = digits == word.digits
 
--- there is such a line, such a symbol, such a word
+-- there is such a line, such a symbol, such a word, such a block
 abbrev pub HasPlace : Targets → Place → Type 0
 HasPlace targets (Line number) = (1 ≤ number) × (number ≤ targets.count)
 HasPlace targets (Symbol name) = IsTrue (list_any (is_of name) targets.entries.items)
 HasPlace targets (Word digits) = IsTrue (list_any (is_at digits) targets.words.items)
+HasPlace targets (Block name) = IsTrue (list_any (same_name name) targets.blocks.items)
 HasPlace targets (Section section) = ⊤
 
 -- a symbol leads to no line but the one that defines it

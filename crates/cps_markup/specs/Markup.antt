@@ -22,7 +22,6 @@ pub data Attribute : Type 0 where
 -- an attribute of the code
 abbrev pub attribute_of : CodeAttribute → Attribute
 attribute_of (made.Identifier place) = identifier place
-attribute_of (made.Target place) = target place
 attribute_of (made.Styled style) = styled style
 attribute_of (made.Titled words) = titled words.now
 attribute_of made.Unfolded = unfolded

@@ -1,6 +1,6 @@
 //! The begins and ends of elements.
-ghost use Rattle.std.specs.Prelude.{◌≡◌, ◌++◌, OnOk, flat_map, map};
-ghost use Rattle.cps_markup.specs.Markup.{attribute_name, attribute_of, attribute_text, attribute_value, closing, escaped, opening};
+ghost use Rattle.std.specs.Prelude.{◌≡◌, [], ◌∷◌, ◌++◌, OnOk, flat_map, map};
+ghost use Rattle.cps_markup.specs.Markup.{attribute_name, attribute_of, attribute_text, attribute_value, closing, escaped, opening, identifier, styled, target};
 
 use crate::escaping::push_text;
 use crate::place::{Place, push_place};
@@ -8,11 +8,10 @@ use crate::style::Style;
 use crate::tag::Tag;
 use std::alloc::AllocError;
 
-/// What an element has: the place that it is, the place that it leads to, a style, or a text that explains it.
+/// What an element has: the place that it is, a style, or a text that explains it.
 #[derive(Clone, Copy)]
 pub enum Attribute<'a> {
     Identifier(Place),
-    Target(Place),
     Styled(Style),
     Titled(&'a [u8]),
     /// Of rows that can be folded: they aren't at first.
@@ -26,7 +25,6 @@ impl Attribute<'_> {
     {
         match self {
             Attribute::Identifier(_) => b" id=\"",
-            Attribute::Target(_) => b" href=\"#",
             Attribute::Styled(_) => b" class=\"",
             Attribute::Titled(_) => b" title=\"",
             Attribute::Unfolded => b" open=\"",
@@ -38,7 +36,6 @@ impl Attribute<'_> {
     {
         match self {
             Attribute::Identifier(place) => push_place(page, place),
-            Attribute::Target(place) => push_place(page, place),
             Attribute::Styled(style) => push_text(page, style.name()),
             Attribute::Titled(words) => push_text(page, words),
             Attribute::Unfolded => Ok(()),
@@ -75,6 +72,52 @@ fn push_attributes(page: &mut Vec<u8>, attributes: &[Attribute<'_>]) -> Result<(
     for attribute in attributes {
         attribute.push(page)?;
     }
+    Ok(())
+}
+
+/// Appends the begin of a part that has a style.
+pub fn push_part_opening(page: &mut Vec<u8>, style: Style) -> Result<(), AllocError>
+    ensures { OnOk result (page.new.items ≡ page.old.items ++ opening Tag.Part (styled style ∷ [])) }
+{
+    page.extend_from_slice(part_opening(style))
+}
+
+/// The begin of a part that has a style.
+fn part_opening(style: Style) -> &'static [u8]
+    ensures { result.now ≡ opening Tag.Part (styled style ∷ []) }
+{
+    match style {
+        Style::Flag => b"<i class=\"f\">",
+        Style::Flagged => b"<i class=\"bad\">",
+        Style::FieldI => b"<i class=\"i\">",
+        Style::FieldJ => b"<i class=\"j\">",
+        Style::FieldK => b"<i class=\"k\">",
+        Style::Constant => b"<i class=\"K\">",
+        Style::Grey => b"<i class=\"z\">",
+        Style::Comment => b"<i class=\"x\">",
+        Style::Cause => b"<i class=\"c\">",
+        Style::Table => b"<i class=\"t\">",
+        Style::Block => b"<i class=\"b\">",
+    }
+}
+
+/// Appends the begin of a link.
+pub fn push_link_opening(page: &mut Vec<u8>, place: Place) -> Result<(), AllocError>
+    ensures { OnOk result (page.new.items ≡ page.old.items ++ opening Tag.Link (target place ∷ [])) }
+{
+    page.extend_from_slice(b"<a href=\"#")?;
+    push_place(page, place)?;
+    page.extend_from_slice(b"\">")?;
+    Ok(())
+}
+
+/// Appends the begin of rows that are a place.
+pub fn push_place_opening(page: &mut Vec<u8>, place: Place) -> Result<(), AllocError>
+    ensures { OnOk result (page.new.items ≡ page.old.items ++ opening Tag.Row (identifier place ∷ [])) }
+{
+    page.extend_from_slice(b"<div id=\"")?;
+    push_place(page, place)?;
+    page.extend_from_slice(b"\">")?;
     Ok(())
 }
 

@@ -1,9 +1,11 @@
 //! An assembled source as a page: markup, which says rows of a text and leads to its places.
 //!
 //! - `attribute.rt`: the begins and ends of elements
+//! - `digit_lines.rt`: the lines that made the digits of words
 //! - `escaping.rt`: text, with those characters by name that begin markup
 //! - `escaping_laws.rt`: what holds of text in markup
 //! - `line_fields.rt`: the fields of a line, as they are painted
+//! - `line_look.rt`: how the rows of a line look
 //! - `link.rt`: links, each of which leads somewhere
 //! - `operand_style.rt`: how the operands of an instruction look
 //! - `painting.rt`: how rows are painted
@@ -14,13 +16,15 @@
 //! - `stretch.rt`: a row, part by part
 //! - `style.rt`: how a part of a row looks
 //! - `tag.rt`: the kinds of elements
-//! - `targets.rt`: the lines, symbols and words to which links can lead
+//! - `targets.rt`: the lines, symbols, words and blocks to which links can lead
 #![tactic(auto)]
 
 mod attribute;
+mod digit_lines;
 mod escaping;
 mod escaping_laws;
 mod line_fields;
+mod line_look;
 mod link;
 mod operand_style;
 mod painting;
@@ -34,9 +38,12 @@ mod tag;
 mod targets;
 
 pub use attribute::{Attribute, push_closing, push_opening};
+pub use digit_lines::{DigitLines, MadeBits};
 pub use escaping::push_text;
 pub use escaping_laws::{a_text_is_read_back, no_text_is_markup};
-pub use link::push_note;
+pub use line_look::LineLook;
+pub use link::{push_note, push_note_at};
+pub use painting::has_code;
 pub use place::{PageSection, Place};
 pub use place_laws::identifiers_differ;
 pub use row_form::RowForm;
@@ -44,4 +51,4 @@ pub use rows::{push_group, push_rows, row_length};
 pub use stretch::{ShownRow, push_row};
 pub use style::Style;
 pub use tag::Tag;
-pub use targets::{Entry, Targets, WordEntry};
+pub use targets::{Entry, Targets, WordEntry, is_among};

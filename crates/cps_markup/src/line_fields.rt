@@ -18,6 +18,17 @@ pub struct LineFields {
 }
 
 impl LineFields {
+    /// Of no line.
+    pub fn none() -> LineFields {
+        LineFields {
+            location_end: 0,
+            operation: 0,
+            operation_end: 0,
+            operands: 0,
+            operands_end: 0,
+        }
+    }
+
     /// Of a line. What it says of one whose operands hold characters with blanks is a guess.
     pub fn of(line: &[u8]) -> LineFields {
         let begin = blanks_end(line, 0);

@@ -1,9 +1,11 @@
 //! Links, each of which leads somewhere.
-ghost use Rattle.std.specs.Prelude.{◌≡◌, [], OnOk};
+ghost use Rattle.std.specs.Prelude.{◌≡◌, [], ◌∷◌, OnOk};
 ghost use Rattle.cps_markup.specs.Links.{Leads};
 ghost use Rattle.cps_markup.specs.Code.Adding.{Adds};
 
-use crate::attribute::{Attribute, push_closing, push_opening};
+use crate::attribute::{
+    Attribute, push_closing, push_link_opening, push_opening, push_part_opening,
+};
 use crate::escaping::push_text;
 use crate::place::Place;
 use crate::style::Style;
@@ -27,6 +29,16 @@ pub fn push_link(
     }
 }
 
+/// Appends words that lead to the line that defines them, or the words alone where they are no symbol that a line defines.
+pub fn push_name(page: &mut Vec<u8>, targets: &Targets, words: &[u8]) -> Result<(), AllocError>
+    ensures { OnOk result (Adds (Leads targets.now) words.now [] page.old.items page.new.items) }
+{
+    match targets.home_of(words) {
+        Some(line) => push_allowed(page, targets, words, Place::Line(line)),
+        None => push_plain(page, targets, words),
+    }
+}
+
 fn push_allowed(
     page: &mut Vec<u8>,
     targets: &Targets,
@@ -36,7 +48,7 @@ fn push_allowed(
     requires { Leads targets.now (record { place = place; words = words.now }) }
     ensures { OnOk result (Adds (Leads targets.now) words.now [] page.old.items page.new.items) }
 {
-    push_opening(page, Tag::Link, &[Attribute::Target(place)])?;
+    push_link_opening(page, place)?;
     push_text(page, words)?;
     push_closing(page, Tag::Link)?;
     Ok(())
@@ -59,7 +71,7 @@ pub fn push_styled(
 ) -> Result<(), AllocError>
     ensures { OnOk result (Adds (Leads targets.now) words.now [] page.old.items page.new.items) }
 {
-    push_opening(page, Tag::Part, &[Attribute::Styled(style)])?;
+    push_part_opening(page, style)?;
     push_text(page, words)?;
     push_closing(page, Tag::Part)?;
     Ok(())
@@ -75,8 +87,23 @@ pub fn push_styled_link(
 ) -> Result<(), AllocError>
     ensures { OnOk result (Adds (Leads targets.now) words.now [] page.old.items page.new.items) }
 {
-    push_opening(page, Tag::Part, &[Attribute::Styled(style)])?;
+    push_part_opening(page, style)?;
     push_link(page, targets, words, place)?;
+    push_closing(page, Tag::Part)?;
+    Ok(())
+}
+
+/// Appends words of a style that lead to the line that defines them, or the words alone where they are no symbol that a line defines.
+pub fn push_styled_name(
+    page: &mut Vec<u8>,
+    targets: &Targets,
+    words: &[u8],
+    style: Style,
+) -> Result<(), AllocError>
+    ensures { OnOk result (Adds (Leads targets.now) words.now [] page.old.items page.new.items) }
+{
+    push_part_opening(page, style)?;
+    push_name(page, targets, words)?;
     push_closing(page, Tag::Part)?;
     Ok(())
 }
@@ -106,6 +133,25 @@ pub fn push_note(
     ensures { OnOk result (Adds (Leads targets.now) [] [] page.old.items page.new.items) }
 {
     push_opening(page, Tag::Note, &[Attribute::Styled(style)])?;
+    push_text(page, words)?;
+    push_closing(page, Tag::Note)?;
+    Ok(())
+}
+
+/// Appends a row of a table beside a text, which is a place.
+pub fn push_note_at(
+    page: &mut Vec<u8>,
+    targets: &Targets,
+    place: Place,
+    words: &[u8],
+) -> Result<(), AllocError>
+    ensures { OnOk result (Adds (Leads targets.now) [] (place ∷ []) page.old.items page.new.items) }
+{
+    let attributes = [
+        Attribute::Styled(Style::Table),
+        Attribute::Identifier(place),
+    ];
+    push_opening(page, Tag::Note, &attributes)?;
     push_text(page, words)?;
     push_closing(page, Tag::Note)?;
     Ok(())

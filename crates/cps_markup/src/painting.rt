@@ -2,6 +2,7 @@
 ghost use Rattle.std.specs.Prelude.{◌≤◌, length};
 
 use crate::line_fields::behind;
+use crate::line_look::LineLook;
 use crate::operand_style::{operand_style, register_place};
 use crate::place::{PageSection, Place};
 use crate::row_form::RowForm;
@@ -26,26 +27,67 @@ const BEFORE_NUMBER: usize = 37;
 pub fn stretch_at<'a>(targets: &Targets, painted: &PaintedRow<'a>, before: usize) -> Stretch<'a> {
     match painted.section {
         PageSection::Listing => listing_stretch(targets, painted, before),
-        PageSection::Words => word_stretch(targets, painted.text, before),
-        PageSection::Symbols => symbol_stretch(targets, painted.text, before),
+        PageSection::Words => word_stretch(targets, painted, before),
+        PageSection::Symbols => symbol_stretch(painted.text, before),
         PageSection::Flags => flag_stretch(painted.text, before),
         PageSection::Memory | PageSection::Instructions => plain(painted.text.len()),
     }
 }
 
-/// The address of a word leads to the first line that has a row there.
-fn word_stretch<'a>(targets: &Targets, row: &[u8], before: usize) -> Stretch<'a> {
-    if before > 0 || !begins_with_digit(row) {
+/// The address of a word leads to the first line that has a row there, each digit to the line that made it.
+fn word_stretch<'a>(targets: &Targets, painted: &PaintedRow<'a>, before: usize) -> Stretch<'a> {
+    let row = painted.text;
+    if !begins_with_digit(row) {
         return plain(row.len());
     }
     let width = length_until_blank(row);
-    match line_at(targets, row.split_at(width).0) {
+    if before == 0 {
+        return word_address_stretch(targets, row.split_at(width).0);
+    }
+    if before <= width {
+        return plain(width - before + 1);
+    }
+    made_stretch(behind_made(painted.makers, before - width - 1))
+}
+
+fn word_address_stretch<'a>(targets: &Targets, digits: &[u8]) -> Stretch<'a> {
+    match line_at(targets, digits) {
         Some(line) => Stretch {
-            width,
+            width: digits.len(),
             paint: Paint::StyledLink(Style::Grey, Place::Line(line)),
         },
-        None => styled(width, Style::Grey),
+        None => styled(digits.len(), Style::Grey),
     }
+}
+
+/// The makers of the digits behind so many.
+fn behind_made(makers: &[u32], before: usize) -> &[u32] {
+    makers.split_at(before.min(makers.len())).1
+}
+
+/// The digits that have one maker with the first lead to it.
+fn made_stretch<'a>(makers: &[u32]) -> Stretch<'a> {
+    let Some(line) = makers.first() else {
+        return plain(usize::MAX);
+    };
+    let width = same_length(makers, *line);
+    if *line == 0 {
+        return plain(width);
+    }
+    Stretch {
+        width,
+        paint: Paint::Linked(Place::Line(*line)),
+    }
+}
+
+/// How many lines there are before another one than this.
+fn same_length(makers: &[u32], line: u32) -> usize {
+    for (at, maker) in makers.iter().enumerate() {
+        if *maker != line {
+            return at;
+        }
+    }
+    makers.len()
 }
 
 /// The first line that has a row at the address of a word.
@@ -69,10 +111,10 @@ fn flag_stretch<'a>(row: &[u8], before: usize) -> Stretch<'a> {
 }
 
 /// A symbol and each number lead to lines; the value is grey.
-fn symbol_stretch<'a>(targets: &Targets, row: &[u8], before: usize) -> Stretch<'a> {
+fn symbol_stretch<'a>(row: &[u8], before: usize) -> Stretch<'a> {
     let rest = behind(row, before);
     if before < BEFORE_VALUE {
-        return name_stretch(targets, rest);
+        return name_stretch(rest);
     }
     if before < BEFORE_LINES {
         return styled(BEFORE_LINES - before, Style::Grey);
@@ -86,24 +128,29 @@ fn symbol_stretch<'a>(targets: &Targets, row: &[u8], before: usize) -> Stretch<'
 /// The flags, the address, the code, the number and the line.
 fn listing_stretch<'a>(targets: &Targets, painted: &PaintedRow<'a>, before: usize) -> Stretch<'a> {
     if before >= BEFORE_LINE {
-        return line_stretch(targets, painted, before - BEFORE_LINE);
+        return line_stretch(painted, before - BEFORE_LINE);
     }
     let rest = behind(painted.text, before);
     let blanks = blank_length(rest);
     if blanks > 0 {
         return plain(blanks.min(BEFORE_LINE - before));
     }
-    front_stretch(painted, rest, before)
+    front_stretch(targets, painted, rest, before)
 }
 
 /// A word of a row before the line: flags, an address, a code, or a number, which leads to the line itself.
-fn front_stretch<'a>(painted: &PaintedRow<'_>, rest: &[u8], before: usize) -> Stretch<'a> {
+fn front_stretch<'a>(
+    targets: &Targets,
+    painted: &PaintedRow<'_>,
+    rest: &[u8],
+    before: usize,
+) -> Stretch<'a> {
     let length = length_until_blank(rest);
     if before < BEFORE_ADDRESS {
         return styled(length, Style::Flag);
     }
     if before < BEFORE_CODE {
-        return address_stretch(painted, rest.split_at(length).0);
+        return address_stretch(targets, painted, rest.split_at(length).0);
     }
     if before < BEFORE_NUMBER {
         return code_stretch(painted, before);
@@ -111,19 +158,36 @@ fn front_stretch<'a>(painted: &PaintedRow<'_>, rest: &[u8], before: usize) -> St
     number_stretch(rest.split_at(length).0)
 }
 
-/// An address leads to its word where that begins, and is grey where it comes again.
-fn address_stretch<'a>(painted: &PaintedRow<'_>, digits: &[u8]) -> Stretch<'a> {
+/// An address leads to its word where that begins, and is grey where it comes again. In a row without a code, as of an ORG, it is grey too where a word
+/// is made there: that begins in another row.
+fn address_stretch<'a>(targets: &Targets, painted: &PaintedRow<'_>, digits: &[u8]) -> Stretch<'a> {
     if !painted.begins_word {
         return styled(digits.len(), Style::Grey);
     }
     let paint = match number_in(digits) {
-        Some(number) => Paint::Linked(Place::Word(number)),
-        None => Paint::Plain,
+        Some(word) if has_code(painted.text) => Paint::Linked(Place::Word(word)),
+        Some(word) if targets.has_word(word) => Paint::StyledLink(Style::Grey, Place::Word(word)),
+        _ => Paint::Plain,
     };
     Stretch {
         width: digits.len(),
         paint,
     }
+}
+
+/// Whether a row of the listing has an address.
+pub fn has_address(row: &[u8]) -> bool {
+    match row.get(BEFORE_ADDRESS) {
+        Some(digit) => digit.is_ascii_digit(),
+        None => false,
+    }
+}
+
+/// Whether a row of the listing has a code.
+pub fn has_code(row: &[u8]) -> bool {
+    let front = row.split_at(BEFORE_NUMBER.min(row.len())).0;
+    let code = behind(front, BEFORE_CODE);
+    blank_length(code) < code.len()
 }
 
 /// A part of an instruction's code: its fields, or an address. Codes of words and of fields have no such parts.
@@ -170,10 +234,10 @@ pub fn style_of(letter: u8) -> Option<Style> {
 }
 
 /// A part of a line: a symbol that it defines leads to the cross-reference, one that it reads to its definition.
-fn line_stretch<'a>(targets: &Targets, painted: &PaintedRow<'a>, before: usize) -> Stretch<'a> {
+fn line_stretch<'a>(painted: &PaintedRow<'a>, before: usize) -> Stretch<'a> {
     let line = behind(painted.text, BEFORE_LINE);
     let rest = behind(line, before);
-    if line.starts_with(b"*") {
+    if line.starts_with(b"*") || painted.look == LineLook::Skipped {
         return styled(rest.len(), Style::Comment);
     }
     let blanks = blank_length(rest);
@@ -183,16 +247,11 @@ fn line_stretch<'a>(targets: &Targets, painted: &PaintedRow<'a>, before: usize) 
     if before >= painted.fields.operands_end {
         return styled(rest.len(), Style::Comment);
     }
-    word_in_line(targets, painted, rest, before)
+    word_in_line(painted, rest, before)
 }
 
 /// A word of a line before its comment.
-fn word_in_line<'a>(
-    targets: &Targets,
-    painted: &PaintedRow<'a>,
-    rest: &[u8],
-    before: usize,
-) -> Stretch<'a> {
+fn word_in_line<'a>(painted: &PaintedRow<'a>, rest: &[u8], before: usize) -> Stretch<'a> {
     if before < painted.fields.location_end {
         return location_stretch(rest.split_at(length_until_blank(rest)).0);
     }
@@ -200,7 +259,63 @@ fn word_in_line<'a>(
         let passed = before.saturating_sub(painted.fields.operation);
         return operation_stretch(painted.form, passed, length_until_blank(rest));
     }
-    hued(name_stretch(targets, rest), painted, rest, before)
+    if let Some(block) = block_in(painted, rest, before) {
+        return block;
+    }
+    hued(name_stretch(rest), painted, rest, before)
+}
+
+/// The name of a block, which USE has as its operand, leads to the block.
+fn block_in<'a>(painted: &PaintedRow<'_>, rest: &[u8], before: usize) -> Option<Stretch<'a>> {
+    if before != painted.fields.operands || !is_use(painted) {
+        return None;
+    }
+    let width = symbol_length(rest);
+    let name = Name::read(rest.split_at(width).0)?;
+    Some(Stretch {
+        width,
+        paint: Paint::Linked(Place::Block(name)),
+    })
+}
+
+/// Whether the operation of a row is USE.
+fn is_use(painted: &PaintedRow<'_>) -> bool {
+    let line = behind(painted.text, BEFORE_LINE);
+    let operation = line
+        .split_at(painted.fields.operation_end.min(line.len()))
+        .0;
+    behind(operation, painted.fields.operation).eq_ignore_ascii_case(b"USE")
+}
+
+/// How many characters a literal has with which operands end. Behind m there may be a comma and d.
+fn literal_length(form: Option<RowForm<'_>>, operands: &[u8]) -> usize {
+    let has_more = match form {
+        Some(form) => form.operands.contains(&b'm'),
+        None => false,
+    };
+    for (at, character) in operands.iter().enumerate() {
+        if has_more && *character == b',' {
+            return at;
+        }
+    }
+    operands.len()
+}
+
+/// The word of a literal, where an operand is one: its address is K, m or c of the code. Where the row has a flag it may be another number.
+fn literal_place(painted: &PaintedRow<'_>, word: &[u8]) -> Option<Place> {
+    let form = painted.form?;
+    if !word.starts_with(b"=") || !painted.text.starts_with(b" ") {
+        return None;
+    }
+    let mut address: u32 = 0;
+    for (letter, digit) in form.code.iter().zip(behind(painted.text, BEFORE_CODE)) {
+        if matches!(letter, b'K' | b'm' | b'c') && digit.is_ascii_digit() {
+            address = address
+                .checked_mul(10)?
+                .checked_add(u32::from(*digit & 15))?;
+        }
+    }
+    Some(Place::Word(address))
 }
 
 /// A part of the operands that looks as the digits of the code that it makes.
@@ -211,11 +326,18 @@ fn hued<'a>(
     before: usize,
 ) -> Stretch<'a> {
     let word = rest.split_at(symbol_length(rest)).0;
+    if let Some(place) = literal_place(painted, word) {
+        let left = painted.fields.operands_end.saturating_sub(before);
+        return Stretch {
+            width: literal_length(painted.form, rest.split_at(left.min(rest.len())).0),
+            paint: Paint::StyledLink(Style::Constant, place),
+        };
+    }
     match style_at(painted, word, before) {
         Some(style) => Stretch {
             width: stretch.width,
             paint: match stretch.paint {
-                Paint::Linked(place) => Paint::StyledLink(style, place),
+                Paint::Name => Paint::StyledName(style),
                 _ => Paint::Styled(style),
             },
         },
@@ -270,22 +392,14 @@ fn location_stretch<'a>(word: &[u8]) -> Stretch<'a> {
 }
 
 /// A symbol at the begin of a text leads to the line that defines it.
-fn name_stretch<'a>(targets: &Targets, rest: &[u8]) -> Stretch<'a> {
+fn name_stretch<'a>(rest: &[u8]) -> Stretch<'a> {
     let length = symbol_length(rest);
     if length == 0 {
         return plain(blank_length(rest).max(1));
     }
-    let word = rest.split_at(length).0;
-    let Some(name) = Name::read(word) else {
-        return plain(length);
-    };
-    let paint = match targets.line_of(name) {
-        Some(line) => Paint::Linked(Place::Line(line)),
-        None => Paint::Plain,
-    };
     Stretch {
         width: length,
-        paint,
+        paint: Paint::Name,
     }
 }
 

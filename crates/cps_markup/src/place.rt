@@ -1,5 +1,5 @@
 //! What a link leads to.
-ghost use Rattle.std.specs.Prelude.{◌≡◌, ◌++◌, OnOk};
+ghost use Rattle.std.specs.Prelude.{◌≡◌, ◌++◌, OnOk, decimal};
 ghost use Rattle.cps_markup.specs.Markup.{escaped};
 ghost use Rattle.cps_markup.specs.Places.{place_text, section_name};
 
@@ -35,13 +35,15 @@ impl PageSection {
     }
 }
 
-/// A place of a page: a line of the listing, by its number from 1, a row of the cross-reference, a word of memory, or a section.
+/// A place of a page: a line of the listing, by its number from 1, a row of the cross-reference, a word of memory, a block, or a section.
 #[derive(Clone, Copy, PartialEq, Eq)]
 pub enum Place {
     Line(u32),
     Symbol(Name),
     /// By the octal digits of its address, as if they were decimal: 105 is the word at 105B.
     Word(u32),
+    /// By its name.
+    Block(Name),
     Section(PageSection),
 }
 
@@ -50,9 +52,10 @@ pub fn push_place(page: &mut Vec<u8>, place: Place) -> Result<(), AllocError>
     ensures { OnOk result (page.new.items ≡ page.old.items ++ escaped (place_text place)) }
 {
     match place {
-        Place::Line(number) => push_text(page, Buffer::new().format(number).as_bytes()),
+        Place::Line(number) => push_number(page, number),
         Place::Symbol(name) => push_text(page, name.text()),
         Place::Word(digits) => push_word(page, digits),
+        Place::Block(name) => push_block(page, name),
         Place::Section(section) => push_text(page, section.name()),
     }
 }
@@ -61,6 +64,23 @@ pub fn push_place(page: &mut Vec<u8>, place: Place) -> Result<(), AllocError>
 fn push_word(page: &mut Vec<u8>, digits: u32) -> Result<(), AllocError>
     ensures { OnOk result (page.new.items ≡ page.old.items ++ escaped (place_text (Place.Word digits))) }
 {
-    push_text(page, b"w")?;
-    push_text(page, Buffer::new().format(digits).as_bytes())
+    page.push(b'w')?;
+    push_number(page, digits)?;
+    Ok(())
+}
+
+/// Appends the identifier of a block: its name behind a letter and a sign.
+fn push_block(page: &mut Vec<u8>, name: Name) -> Result<(), AllocError>
+    ensures { OnOk result (page.new.items ≡ page.old.items ++ escaped (place_text (Place.Block name))) }
+{
+    push_text(page, b"b-")?;
+    push_text(page, name.text())
+}
+
+/// Appends a number. No digit is written by name.
+fn push_number(page: &mut Vec<u8>, number: u32) -> Result<(), AllocError>
+    ensures { OnOk result (page.new.items ≡ page.old.items ++ escaped (decimal number)) }
+{
+    page.extend_from_slice(Buffer::new().format(number).as_bytes())?;
+    Ok(())
 }

@@ -3,11 +3,13 @@ ghost use Rattle.std.specs.Prelude.{◌≡◌, ◌≤◌, ◌<◌, [], ◌∷◌
 ghost use Rattle.cps_markup.specs.Links.{Leads};
 ghost use Rattle.cps_markup.specs.Code.Adding.{Adds};
 
-use crate::attribute::{Attribute, push_closing, push_opening};
+use crate::attribute::{push_closing, push_place_opening};
+use crate::line_look::LineLook;
 use crate::place::{PageSection, Place};
 use crate::stretch::{ShownRow, push_row};
 use crate::tag::Tag;
 use crate::targets::Targets;
+use memchr::memchr;
 use std::alloc::AllocError;
 
 /// Appends rows of the text of a section, which are one place.
@@ -20,7 +22,7 @@ pub fn push_group(
 ) -> Result<(), AllocError>
     ensures { OnOk result (Adds (Leads targets.now) rows.now (place ∷ []) page.old.items page.new.items) }
 {
-    push_opening(page, Tag::Row, &[Attribute::Identifier(place)])?;
+    push_place_opening(page, place)?;
     push_rows(page, targets, section, rows)?;
     push_closing(page, Tag::Row)?;
     Ok(())
@@ -43,6 +45,7 @@ pub fn push_rows(
             text: row,
             form: None,
             begins_word: false,
+            look: LineLook::Plain,
             note: b"",
             is_summary: false,
         };
@@ -57,10 +60,8 @@ pub fn row_length(rows: &[u8]) -> usize
     ensures some { 0 < length rows.now → 1 ≤ result }
     ensures within { result ≤ length rows.now }
 {
-    for (at, character) in rows.iter().enumerate() {
-        if *character == b'\n' {
-            return at + 1;
-        }
+    match memchr(b'\n', rows) {
+        Some(at) => at + 1,
+        None => rows.len(),
     }
-    rows.len()
 }

@@ -2,13 +2,17 @@
 ghost use Rattle.std.specs.Prelude.{◌≡◌, ◌≤◌, ◌<◌, [], ◌++◌, OnOk, length};
 ghost use Rattle.cps_markup.specs.Links.{Leads};
 ghost use Rattle.cps_markup.specs.Markup.{opening};
-ghost use Rattle.cps_markup.specs.Code.Adding.{Adds, row_attributes, row_tag};
+ghost use Rattle.cps_markup.specs.Code.Adding.{Adds, front_attributes, row_attributes, row_tag};
 
-use crate::attribute::{Attribute, push_closing, push_opening};
+use crate::attribute::push_closing;
 use crate::escaping::push_text;
 use crate::line_fields::LineFields;
-use crate::link::{push_link, push_note, push_plain, push_styled, push_styled_link, push_titled};
-use crate::painting::stretch_at;
+use crate::line_look::LineLook;
+use crate::link::{
+    push_link, push_name, push_note, push_plain, push_styled, push_styled_link, push_styled_name,
+    push_titled,
+};
+use crate::painting::{has_address, stretch_at};
 use crate::place::{PageSection, Place};
 use crate::row_form::RowForm;
 use crate::style::Style;
@@ -26,6 +30,9 @@ pub enum Paint<'a> {
     Styled(Style),
     Linked(Place),
     StyledLink(Style, Place),
+    /// As a symbol that is read, which leads to its definition.
+    Name,
+    StyledName(Style),
     /// Words that this explains.
     Titled(&'a [u8]),
 }
@@ -45,8 +52,9 @@ pub struct ShownRow<'a> {
     pub text: &'a [u8],
     /// The form of its instruction, if it has one.
     pub form: Option<RowForm<'a>>,
-    /// Whether it is the first row at its address, which leads to the word then.
+    /// Whether its address is the first of its kind, with a code or without one.
     pub begins_word: bool,
+    pub look: LineLook,
     /// What is told behind it, perhaps nothing.
     pub note: &'a [u8],
     /// Whether it stands for rows that can be folded.
@@ -61,8 +69,11 @@ pub struct PaintedRow<'a> {
     pub text: &'a [u8],
     pub form: Option<RowForm<'a>>,
     pub begins_word: bool,
+    pub look: LineLook,
     /// The fields of its line, in the listing.
     pub fields: LineFields,
+    /// In the binary text by each digit of its word the line that made it.
+    pub makers: &'a [u32],
 }
 
 /// Appends a row, with its line feed. Whatever is painted, what it says is the row.
@@ -90,11 +101,17 @@ fn push_row_opening(
 ) -> Result<(), AllocError>
     ensures { OnOk result (page.new.items ≡ page.old.items ++ opening (row_tag is_summary) (row_attributes is_flagged)) }
 {
-    let tag = row_tag(is_summary);
-    if is_flagged {
-        push_opening(page, tag, &[Attribute::Styled(Style::Flagged)])
-    } else {
-        push_opening(page, tag, &[])
+    page.extend_from_slice(row_opening(is_summary, is_flagged))
+}
+
+fn row_opening(is_summary: bool, is_flagged: bool) -> &'static [u8]
+    ensures { result.now ≡ opening (row_tag is_summary) (row_attributes is_flagged) }
+{
+    match (is_summary, is_flagged) {
+        (false, false) => b"<div>",
+        (false, true) => b"<div class=\"bad\">",
+        (true, false) => b"<summary>",
+        (true, true) => b"<summary class=\"bad\">",
     }
 }
 
@@ -103,7 +120,7 @@ fn push_row_note(page: &mut Vec<u8>, targets: &Targets, words: &[u8]) -> Result<
     ensures { OnOk result (Adds (Leads targets.now) [] [] page.old.items page.new.items) }
 {
     if words.is_empty() {
-        return push_plain(page, targets, b"");
+        return Ok(());
     }
     push_note(page, targets, Style::Grey, words)
 }
@@ -145,11 +162,41 @@ fn push_columns(
         text,
         form: shown.form,
         begins_word: shown.begins_word,
-        fields: LineFields::of(rest),
+        look: shown.look,
+        fields: fields_in(shown.section, rest),
+        makers: makers_in(targets, shown.section, text),
     };
     push_front(page, targets, &painted, front)?;
     push_painted(page, targets, &painted, width, rest)?;
     Ok(())
+}
+
+/// The fields of a row's line; none but in the listing.
+fn fields_in(section: PageSection, line: &[u8]) -> LineFields {
+    match section {
+        PageSection::Listing => LineFields::of(line),
+        _ => LineFields::none(),
+    }
+}
+
+/// The lines that made the digits of a row's word; none but in the binary text.
+fn makers_in<'a>(targets: &'a Targets, section: PageSection, text: &[u8]) -> &'a [u32] {
+    match section {
+        PageSection::Words => targets.makers.of_word(octal_in(text)),
+        _ => &[],
+    }
+}
+
+/// The number that a text begins with, in octal digits.
+fn octal_in(text: &[u8]) -> u32 {
+    let mut number: u32 = 0;
+    for digit in text {
+        match digit {
+            b'0'..=b'7' => number = (number << 3) | u32::from(*digit & 7),
+            _ => return number,
+        }
+    }
+    number
 }
 
 /// How wide what stands before the line is, 0 where no line is shown.
@@ -185,10 +232,25 @@ fn push_full_front(
 ) -> Result<(), AllocError>
     ensures { OnOk result (Adds (Leads targets.now) front.now [] page.old.items page.new.items) }
 {
-    push_opening(page, Tag::Front, &[])?;
+    push_front_opening(page, has_stripe(painted))?;
     push_painted(page, targets, painted, 0, front)?;
     push_closing(page, Tag::Front)?;
     Ok(())
+}
+
+/// Whether a row has an address in a named block.
+fn has_stripe(painted: &PaintedRow<'_>) -> bool {
+    painted.look == LineLook::InBlock && has_address(painted.text)
+}
+
+fn push_front_opening(page: &mut Vec<u8>, is_in_block: bool) -> Result<(), AllocError>
+    ensures { OnOk result (page.new.items ≡ page.old.items ++ opening Tag.Front (front_attributes is_in_block)) }
+{
+    if is_in_block {
+        page.extend_from_slice(b"<span class=\"b\">")
+    } else {
+        page.extend_from_slice(b"<span>")
+    }
 }
 
 /// A part of a row that begins behind so many of its characters.
@@ -234,6 +296,8 @@ fn push_stretch(
         Paint::Styled(style) => push_styled(page, targets, words, style),
         Paint::Linked(place) => push_link(page, targets, words, place),
         Paint::StyledLink(style, place) => push_styled_link(page, targets, words, style, place),
+        Paint::Name => push_name(page, targets, words),
+        Paint::StyledName(style) => push_styled_name(page, targets, words, style),
         Paint::Titled(title) => push_titled(page, targets, words, title),
     }
 }

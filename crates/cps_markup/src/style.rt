@@ -24,6 +24,8 @@ pub enum Style {
     Cause,
     /// A row of a table.
     Table,
+    /// What stands before the source, in a named block.
+    Block,
 }
 
 impl Style {
@@ -42,6 +44,7 @@ impl Style {
             Style::Comment => b"x",
             Style::Cause => b"c",
             Style::Table => b"t",
+            Style::Block => b"b",
         }
     }
 }

@@ -1,9 +1,11 @@
-//! The lines, symbols and words of a page, to which links can lead.
+//! The lines, symbols, words and blocks of a page, to which links can lead.
 ghost use Rattle.std.specs.Prelude.{◌≡◌, ◌≤◌, ℕ, IsTrue, IfSome, Some, length};
 ghost use Rattle.std.specs.List.{list_any};
 ghost use Rattle.cps_text.specs.Name.{name_of};
+ghost use Rattle.cps_expr.specs.Value.{same_name};
 ghost use Rattle.cps_markup.specs.Links.{HasPlace, IsHome, Leads, is_at, is_defined, is_of};
 
+use crate::digit_lines::DigitLines;
 use crate::place::Place;
 use cps_text::Name;
 
@@ -21,12 +23,15 @@ pub struct WordEntry {
     pub line: u32,
 }
 
-/// What a page has places for: how many lines there are, the symbols in the order of their names, and the words in that of their addresses.
+/// What a page has places for: how many lines there are, the symbols in the order of their names, the words and the blocks in that of their addresses.
 #[derive(Drop)]
 pub struct Targets {
     pub count: u32,
     pub entries: Vec<Entry>,
     pub words: Vec<WordEntry>,
+    pub blocks: Vec<Name>,
+    /// The lines that made the digits of words.
+    pub makers: DigitLines,
 }
 
 impl Targets {
@@ -38,6 +43,7 @@ impl Targets {
             Place::Line(number) => self.allows_line(words, number),
             Place::Symbol(name) => self.has_symbol(name),
             Place::Word(digits) => self.has_word(digits),
+            Place::Block(name) => is_among(&self.blocks, name),
             Place::Section(_) => true,
         }
     }
@@ -59,6 +65,23 @@ impl Targets {
         }
     }
 
+    /// The number of the line that defines the symbol that words are, None where they are none that a line defines.
+    pub fn home_of(&self, words: &[u8]) -> Option<u32>
+        ensures { IfSome result (λ line. Leads self.now (record { place = Place.Line line; words = words.now })) }
+    {
+        let Some(name) = Name::read(words) else {
+            return None;
+        };
+        let Some(line) = self.line_of(name) else {
+            return None;
+        };
+        if 1 <= line && line <= self.count {
+            Some(line)
+        } else {
+            None
+        }
+    }
+
     fn is_defined(&self, name: Name, number: u32) -> bool
         ensures { IsTrue result → IsTrue (list_any (is_defined name number) self.now.entries.items) }
     {
@@ -77,7 +100,7 @@ impl Targets {
     }
 
     /// The number of the line that defines a symbol of the cross-reference, 0 where none does.
-    pub fn line_of(&self, name: Name) -> Option<u32>
+    fn line_of(&self, name: Name) -> Option<u32>
         ensures { IfSome result (λ line. IsTrue (list_any (is_defined name line) self.now.entries.items)) }
     {
         let place = self.place_of(name);
@@ -107,7 +130,7 @@ impl Targets {
     }
 
     /// Whether there is a word at an address.
-    fn has_word(&self, digits: u32) -> bool
+    pub fn has_word(&self, digits: u32) -> bool
         ensures { IsTrue result → IsTrue (list_any (is_at digits) self.now.words.items) }
     {
         let place = self.words_before(digits);
@@ -143,4 +166,11 @@ impl Targets {
         }
         low
     }
+}
+
+/// Whether a block is among some.
+pub fn is_among(blocks: &[Name], name: Name) -> bool
+    ensures { result ≡ list_any (same_name name) blocks.now }
+{
+    blocks.iter().any(|block| name == *block)
 }

@@ -3,7 +3,7 @@
 use cps_batch::Source;
 use cps_final::Finals;
 use cps_list::View;
-use cps_page::Block;
+use cps_page::{Block, BlockName};
 use cps_state::{Answer, Hashing, Key, Lookup, Trace};
 use cps_text::Name;
 use std::alloc::{AllocError, Global};
@@ -17,20 +17,15 @@ pub fn list_blocks(
 ) -> Result<Vec<Block>, AllocError> {
     let finals = source.finals();
     let mut blocks = Vec::new(alloc);
-    push_block(alloc, &mut blocks, b"nominal", 0, words_in(finals, None))?;
-    push_literals(alloc, &mut blocks, finals)?;
+    push_block(&mut blocks, BlockName::Nominal, 0, words_in(finals, None))?;
+    push_literals(&mut blocks, finals)?;
     let mut named = NamedBlocks::of(alloc, finals.hashing());
     named.take_lines(traces)?;
     for name in &named.names {
         if let Some(base) = finals.base(Some(*name)) {
             let words = words_in(finals, Some(*name));
-            push_block(
-                alloc,
-                &mut blocks,
-                name.text(),
-                base.offset.unsigned_abs(),
-                words,
-            )?;
+            let address = base.offset.unsigned_abs();
+            push_block(&mut blocks, BlockName::Named(*name), address, words)?;
         }
     }
     Ok(blocks)
@@ -83,17 +78,14 @@ fn words_in(finals: &Finals, block: Option<Name>) -> u64 {
 }
 
 fn push_block(
-    alloc: Global,
     blocks: &mut Vec<Block>,
-    shown: &[u8],
+    name: BlockName,
     address: u64,
     words: u64,
 ) -> Result<(), AllocError> {
     if words == 0 {
         return Ok(());
     }
-    let mut name = Vec::new(alloc);
-    name.extend_from_slice(shown)?;
     blocks.push(Block {
         name,
         address,
@@ -103,15 +95,11 @@ fn push_block(
 }
 
 /// The literals stand behind the nominal block.
-fn push_literals(
-    alloc: Global,
-    blocks: &mut Vec<Block>,
-    finals: &Finals,
-) -> Result<(), AllocError> {
+fn push_literals(blocks: &mut Vec<Block>, finals: &Finals) -> Result<(), AllocError> {
     let pool = finals.pool();
     let Some(first) = pool.first() else {
         return Ok(());
     };
     let address = finals.literal_address(*first);
-    push_block(alloc, blocks, b"literals", address, pool.len() as u64)
+    push_block(blocks, BlockName::Literals, address, pool.len() as u64)
 }

@@ -1,9 +1,10 @@
-//! What a page tells beside the texts of a source: the causes of its flags, what its instructions do, and where its blocks stand. It is told to be
-//! read, and no contract says anything of it.
+//! What a page tells beside the texts of a source: the causes of its flags, what its instructions do, where its blocks stand, and how its lines look.
+//! It is told to be read, and no contract says anything of it.
 //!
 //! - `blocks.rt`: where the blocks of a source stand
 //! - `causes.rt`: why lines are flagged
 //! - `forms.rt`: the forms of the instructions that occur
+//! - `looks.rt`: how the rows of lines look
 //! - `manual_rows.rt`: the forms of an operation, read from what the manual tells of it
 //! - `telling.rt`: all that is told
 #![tactic(auto)]
@@ -11,6 +12,7 @@
 mod blocks;
 mod causes;
 mod forms;
+mod looks;
 mod manual_rows;
 mod telling;
 

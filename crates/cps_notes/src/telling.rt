@@ -3,6 +3,7 @@
 use crate::blocks::list_blocks;
 use crate::causes::list_causes;
 use crate::forms::FormLister;
+use crate::looks::list_looks;
 use cps_batch::Source;
 use cps_page::Beside;
 use cps_state::Trace;
@@ -13,6 +14,7 @@ use std::alloc::{AllocError, Global};
 pub fn tell_beside(alloc: Global, source: &Source, traces: &[Trace]) -> Result<Beside, AllocError> {
     let causes = list_causes(alloc, source, traces)?;
     let blocks = list_blocks(alloc, source, traces)?;
+    let looks = list_looks(alloc, traces)?;
     let mut lister = FormLister::of(alloc, source);
     lister.take_lines(source)?;
     let (forms, uses) = lister.into_parts();
@@ -21,5 +23,6 @@ pub fn tell_beside(alloc: Global, source: &Source, traces: &[Trace]) -> Result<B
         forms,
         uses,
         blocks,
+        looks,
     })
 }

@@ -1,4 +1,5 @@
 pub mod EntryLemmas
 pub mod WordLemmas
+pub mod BlockLemmas
 pub mod PlaceLemmas
 pub mod PageLemmas

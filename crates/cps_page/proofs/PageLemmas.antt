@@ -1,9 +1,10 @@
 -- A page from its sections, and sections from their rows.
-use Rattle.std.proofs.Common.{◌≡◌, ℕ, suc, ◌+◌, ◌-◌, ◌≤◌, ◌<◌, sym, ap, subst, ◌∙◌, List, [], ◌∷◌, ◌++◌, append-nil, append_assoc, get_or, take, drop, length, arith}
+use Rattle.std.proofs.Common.{◌≡◌, ℕ, suc, ◌+◌, ◌-◌, ◌≤◌, ◌<◌, refl, sym, ap, subst, ◌∙◌, List, [], ◌∷◌, ◌++◌, append-nil, append_assoc, get_or, take, drop, length, arith}
 use Rattle.std.specs.Prelude.{All, Some, slice_get, count_by}
 use Rattle.std.specs.List.{list_any}
 use Rattle.std.proofs.lemmas.List.{at_drop_more, drop_all, take-append-drop}
 use Rattle.std.proofs.lemmas.List.Elements.{All-append}
+use Rattle.cps_text.specs.declared.name.Name.{Name}
 use Rattle.cps_final.specs.Outcome.{Outcome}
 use Rattle.cps_final.specs.declared.row.Row.{Row}
 use Rattle.cps_list.specs.Assembly.{Assembly}
@@ -13,7 +14,7 @@ use Rattle.cps_list.specs.ListingText.{line_rows, listing_from, listing_text}
 use Rattle.cps_list.specs.Symbols.{mentions_from, symbols_text}
 use Rattle.cps_list.proofs.ViewLemmas.{drop-next}
 use Rattle.cps_markup.specs.declared.place.Place.{Place}
-use Rattle.cps_markup.specs.declared.place.Place.TheVariants.{Line, Symbol, Word, Section}
+use Rattle.cps_markup.specs.declared.place.Place.TheVariants.{Line, Symbol, Word, Block, Section}
 use Rattle.cps_markup.specs.declared.place.PageSection.{PageSection}
 use Rattle.cps_markup.specs.declared.place.PageSection.TheVariants as page
 use Rattle.cps_markup.specs.declared.tag.Tag.TheVariants as tag
@@ -27,7 +28,7 @@ use Rattle.cps_markup.specs.Places.{same_place}
 use Rattle.cps_markup.specs.Code.Adding.{Adds}
 use Rattle.cps_markup.proofs.AddsLemmas.{adds-joined, adds-nothing, all-none}
 use Rattle.cps_page.specs.Page.{body, title_text, IsPage}
-use Rattle.cps_page.specs.Code.Making.{lines_from, symbols_among, words_among, all_places, AddsSection, AddsSections, AreTargets}
+use Rattle.cps_page.specs.Code.Making.{blocks_among, lines_from, symbols_among, words_among, all_places, AddsSection, AddsSections, AreTargets}
 use Rattle.cps_page.proofs.EntryLemmas.{found-defined}
 use Rattle.cps_page.proofs.PlaceLemmas.{all-once, all-there, all-written}
 
@@ -87,6 +88,15 @@ module _ (P : Link → Type 0) where
       (sym (at_drop_more words_among words i d lt))
       (adds-joined P row behind (Word (get_or words i d).digits ∷ []) (words_among (drop (i + 1) words)) old new last a later)
 
+  -- the next block, and those after it: nothing of them is said
+  pub adds-block : (blocks : List Name) (i : ℕ) (d : Name) (begun old new last : List ℕ) → i < length blocks → Adds P [] [] begun old
+      → Adds P [] (Block (get_or blocks i d) ∷ []) old new → Adds P [] (blocks_among (drop (i + 1) blocks)) new last → Adds P [] (blocks_among (drop i blocks)) begun last
+  adds-block blocks i d begun old new last lt front a later =
+      adds-same [] [] _ _ begun last refl
+      (sym (at_drop_more blocks_among blocks i d lt))
+      (adds-joined P [] [] [] _ begun old last front
+      (adds-joined P [] [] (Block (get_or blocks i d) ∷ []) (blocks_among (drop (i + 1) blocks)) old new last a later))
+
   -- rows without a place, and those behind them
   pub adds-front : (n : ℕ) (rest front behind : List ℕ) (p : List Place) (old middle last : List ℕ) → front ≡ take n rest → behind ≡ drop n rest → Adds P front [] old middle
       → Adds P behind p middle last → Adds P rest p old last
@@ -117,7 +127,7 @@ module _ (targets : Targets) where
   six old m a b c d e = simp (append_assoc, append-nil)
 
   pub adds-sections : (assembly : Assembly) (old begun listed worded symboled flagged new : List ℕ)
-      → AddsSection targets page.Memory [] [] old begun
+      → AddsSection targets page.Memory [] (blocks_among targets.blocks.items) old begun
       → AddsSection targets page.Listing (listing_text assembly) (lines_from 1 assembly.lines) begun listed
       → AddsSection targets page.Words (binary_text assembly) (words_among targets.words.items) listed worded
       → AddsSection targets page.Symbols (symbols_text assembly) (symbols_among targets.entries.items) worded symboled
@@ -164,8 +174,8 @@ page-of assembly targets front middle back begun made new are fronted a backed =
       words = a.words;
       symbols = a.symbols;
       flags = a.flags;
-      once = λ place. subst (λ (ps : List Place). count_by (same_place place) ps ≤ 1) (sym a.same_places) (all-once assembly.lines targets are.symbols.once are.words place);
-      differ = subst (All IsWritten) (sym a.same_places) (all-written assembly.lines targets are.few are.symbols.written are.words);
+      once = λ place. subst (λ (ps : List Place). count_by (same_place place) ps ≤ 1) (sym a.same_places) (all-once assembly.lines targets are.symbols.once are.words are.blocks place);
+      differ = subst (All IsWritten) (sym a.same_places) (all-written assembly.lines targets are.few are.symbols.written are.words are.blocks);
       alive = λ k d lt. let place = (get_or (links (body a.sections)) k d).place in sym (there place) ∙ all-there assembly.lines targets are.lines place (a.good k d lt).there;
       home = λ k d lt. λ name number words leads.
           found-defined (mentions_from 1 assembly.outcomes) name number targets.entries.items are.symbols.defined ((a.good k d lt).home number leads name words);

@@ -1,4 +1,6 @@
 //! What a page tells beside the texts. No contract says anything of it.
+use cps_markup::LineLook;
+use cps_text::Name;
 use std::alloc::Global;
 
 /// A cause of a line's flag.
@@ -38,10 +40,29 @@ pub struct FormUse {
     pub form: u32,
 }
 
+/// What a block is called.
+#[derive(Clone, Copy)]
+pub enum BlockName {
+    Nominal,
+    Literals,
+    Named(Name),
+}
+
+impl BlockName {
+    /// As the page shows it.
+    pub fn text(&self) -> &[u8] {
+        match self {
+            BlockName::Nominal => b"nominal",
+            BlockName::Literals => b"literals",
+            BlockName::Named(name) => name.text(),
+        }
+    }
+}
+
 /// Words of memory that stand together.
-#[derive(Drop)]
+#[derive(Clone, Copy)]
 pub struct Block {
-    pub name: Vec<u8>,
+    pub name: BlockName,
     /// The address of its first word.
     pub address: u64,
     /// How many words it has.
@@ -58,6 +79,8 @@ pub struct Beside {
     pub uses: Vec<FormUse>,
     /// By their addresses.
     pub blocks: Vec<Block>,
+    /// By the lines; those behind these look plain.
+    pub looks: Vec<LineLook>,
 }
 
 impl Beside {
@@ -68,6 +91,7 @@ impl Beside {
             forms: Vec::new(alloc),
             uses: Vec::new(alloc),
             blocks: Vec::new(alloc),
+            looks: Vec::new(alloc),
         }
     }
 }

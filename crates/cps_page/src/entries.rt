@@ -71,7 +71,7 @@ fn add_first(entries: &mut Vec<Entry>, mention: &Mention) -> Result<(), AllocErr
 }
 
 /// Whether a symbol is the one that its characters write.
-fn is_written(name: Name) -> bool
+pub fn is_written(name: Name) -> bool
     ensures { IsTrue result → IsWritten (Place.Symbol name) }
 {
     match Name::read(name.text()) {

@@ -10,8 +10,8 @@ use crate::listed_rows::{ListedRows, push_listed_rows};
 use crate::telling::Telling;
 use cps_list::push_decimal;
 use cps_markup::{
-    Attribute, PageSection, Place, ShownRow, Tag, Targets, push_closing, push_opening, push_row,
-    row_length,
+    Attribute, LineLook, PageSection, Place, ShownRow, Tag, Targets, push_closing, push_opening,
+    push_row, row_length,
 };
 use std::alloc::{AllocError, Global};
 
@@ -145,6 +145,7 @@ fn push_noted<'a>(
         text: row,
         form,
         begins_word: false,
+        look: LineLook::Plain,
         note,
         is_summary: true,
     };

@@ -44,7 +44,9 @@ details[open] > summary::after { content: \"\\25be\"; }
 details[open] > summary small { display: none; }
 summary small { margin-left: 3ch; }
 small { font-size: inherit; user-select: none; -webkit-user-select: none; }
-#listing a[href^=\"#w\"], #words a { text-decoration: none; }
+#listing span a[href^=\"#w\"], #words a { text-decoration: none; }
+#words a + a { box-shadow: -1px 0 var(--soft); }
+.b { padding: .25em 0; background: linear-gradient(var(--j), var(--j)) 8ch 0 / 2px 100% no-repeat; }
 .c { display: block; padding-left: 44ch; color: var(--bad); font: var(--size)/1.5 var(--mono); white-space: pre-wrap; }
 #flags .c { padding-left: 8ch; }
 .f { font-weight: 600; color: var(--bad); }
@@ -67,6 +69,7 @@ small { font-size: inherit; user-select: none; -webkit-user-select: none; }
   #listing div:not([id]), section summary { padding-bottom: 1.5em; }
   #listing span { position: absolute; bottom: 0; left: 0; white-space: pre; }
   .c { padding-left: 9ch; }
+  .b { padding: 0; }
   section summary::after { left: auto; right: 0; }
 }
 @media print {

@@ -8,8 +8,11 @@
 //! - `frame.rt`: what stands around the title and the sections
 //! - `listed_rows.rt`: rows of the listing
 //! - `listing.rt`: the section of the listing
+//! - `makers.rt`: the lines that made the digits of words
+//! - `named_blocks.rt`: the named blocks to which links can lead
 //! - `page.rt`: the page
 //! - `sections.rt`: the sections
+//! - `summary.rt`: what a page is of
 //! - `tables.rt`: tables beside the texts
 //! - `telling.rt`: what is told beside the rows of a text, as these are gone through
 //! - `words.rt`: the words to which links can lead
@@ -23,12 +26,16 @@ mod flags;
 mod frame;
 mod listed_rows;
 mod listing;
+mod makers;
+mod named_blocks;
 mod page;
 mod sections;
+mod summary;
 mod tables;
 mod telling;
 mod words;
 
-pub use beside::{Beside, Block, Cause, Form, FormUse};
+pub use beside::{Beside, Block, BlockName, Cause, Form, FormUse};
+pub use cps_markup::LineLook;
 pub use frame::{BACK, FRONT, MIDDLE};
 pub use page::{Frame, make_page, make_page_of};

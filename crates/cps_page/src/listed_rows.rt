@@ -92,6 +92,7 @@ fn push_one(
         text: row.text,
         form: telling.form_at(row.line, row.before),
         begins_word: telling.takes_address(row.text),
+        look: telling.look_of(row.line),
         note: b"",
         is_summary: false,
     };

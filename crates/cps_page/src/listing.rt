@@ -1,5 +1,5 @@
 //! The section of the listing.
-ghost use Rattle.std.specs.Prelude.{◌≡◌, [], ◌∷◌, ◌++◌, IfOk, OnOk};
+ghost use Rattle.std.specs.Prelude.{◌≡◌, [], ◌∷◌, ◌++◌, OnOk};
 ghost use Rattle.cps_list.specs.ListingText.{line_rows, listing_from, open_row};
 ghost use Rattle.cps_markup.specs.declared.place.Place.TheVariants.{Line};
 ghost use Rattle.cps_markup.specs.Links.{Leads};
@@ -39,6 +39,7 @@ fn push_lines<V: View>(
     ensures { let source = V.assembly view.now in
         OnOk result (Adds (Leads targets.now) (listing_from 1 source.lines source.outcomes) (lines_from 1 source.lines) page.old.items page.new.items) }
 {
+    let mut text = Vec::new(alloc);
     for before in 0..view.count() {
         let Some(line) = view.line(before + 1) else {
             unreachable!();
@@ -46,7 +47,7 @@ fn push_lines<V: View>(
         let Some(outcome) = view.outcome(before + 1) else {
             unreachable!();
         };
-        let text = rows_of(alloc, before + 1, line.bytes(), outcome.rows())?;
+        fill_rows(&mut text, before + 1, line.bytes(), outcome.rows())?;
         push_line(
             alloc,
             page,
@@ -58,13 +59,12 @@ fn push_lines<V: View>(
     Ok(())
 }
 
-/// The rows of a line.
-fn rows_of(alloc: Global, number: u32, line: &[u8], rows: &[Row]) -> Result<Vec<u8>, AllocError>
-    ensures { IfOk result (λ text. text.items ≡ line_rows number line.now rows.now) }
+/// Writes the rows of a line over a text.
+fn fill_rows(text: &mut Vec<u8>, number: u32, line: &[u8], rows: &[Row]) -> Result<(), AllocError>
+    ensures { OnOk result (text.new.items ≡ line_rows number line.now rows.now) }
 {
-    let mut text = Vec::new(alloc);
-    push_listing_rows(&mut text, number, line, rows)?;
-    Ok(text)
+    text.clear();
+    push_listing_rows(text, number, line, rows)
 }
 
 /// The last row of a source that ends while a range is open, with all causes that are left.

@@ -4,9 +4,11 @@ ghost use Rattle.cps_list.specs.Binary.{binary_text};
 ghost use Rattle.cps_page.specs.Code.Making.{AddsSections, AreTargets};
 ghost use Rattle.cps_page.specs.Page.{IsPage, IsPageOf, title_text};
 
-use crate::beside::Beside;
+use crate::beside::{Beside, Block};
 use crate::entries::list_entries;
 use crate::frame::{BACK, FRONT, MIDDLE};
+use crate::makers::list_makers;
+use crate::named_blocks::list_names;
 use crate::sections::{
     push_flag_section, push_instruction_section, push_listing_section, push_memory_section,
     push_symbol_section, push_word_section,
@@ -39,7 +41,7 @@ pub fn make_page<V: View>(
     ensures { IfOk result (λ page. IsPage frame.now.front.now frame.now.middle.now frame.now.back.now (V.assembly view.now) page.items) }
 {
     let words = make_text(alloc, view, Part::Binary)?;
-    let targets = list_targets(alloc, view, &words)?;
+    let targets = list_targets(alloc, view, &words, &beside.blocks)?;
     let making = Making {
         targets: &targets,
         beside,
@@ -80,16 +82,25 @@ fn title_of(program: &Option<Name>) -> &[u8]
     }
 }
 
-/// The lines, symbols and words to which links can lead.
-fn list_targets<V: View>(alloc: Global, view: &V, words: &[u8]) -> Result<Targets, AllocError>
+/// The lines, symbols, words and blocks to which links can lead.
+fn list_targets<V: View>(
+    alloc: Global,
+    view: &V,
+    words: &[u8],
+    blocks: &[Block],
+) -> Result<Targets, AllocError>
     ensures { IfOk result (AreTargets (V.assembly view.now)) }
 {
     let entries = list_entries(alloc, view)?;
     let words = list_words(alloc, view, words)?;
+    let blocks = list_names(alloc, blocks)?;
+    let makers = list_makers(alloc, view)?;
     Ok(Targets {
         count: view.count(),
         entries,
         words,
+        blocks,
+        makers,
     })
 }
 
@@ -117,7 +128,7 @@ fn push_sections<V: View>(
         beside,
         words,
     } = *making;
-    push_memory_section(alloc, page, targets, beside)?;
+    push_memory_section(alloc, page, view, targets, beside)?;
     push_listing_section(alloc, page, view, targets, beside)?;
     push_word_section(page, targets, words)?;
     let symbols = make_text(alloc, view, Part::Symbols)?;

@@ -3,11 +3,12 @@ ghost use Rattle.std.specs.Prelude.{◌≡◌, ◌≤◌, [], ◌∷◌, ◌++�
 ghost use Rattle.cps_markup.specs.Links.{Leads};
 ghost use Rattle.cps_markup.specs.Markup.{identifier, opening};
 ghost use Rattle.cps_markup.specs.Code.Adding.{Adds};
-ghost use Rattle.cps_page.specs.Code.Making.{AddsListingSection, AddsSection, AddsSymbolSection, AddsWordSection, symbols_among, words_among};
+ghost use Rattle.cps_page.specs.Code.Making.{AddsListingSection, AddsMemorySection, AddsSection, AddsSymbolSection, AddsWordSection, symbols_among, words_among};
 
 use crate::beside::Beside;
 use crate::flags::push_flags;
 use crate::listing::push_listing;
+use crate::summary::push_summary;
 use crate::tables::{push_blocks, push_forms};
 use crate::telling::Telling;
 use cps_list::View;
@@ -17,17 +18,19 @@ use cps_markup::{
 };
 use std::alloc::{AllocError, Global};
 
-/// The section that tells where the blocks of the program stand.
-pub fn push_memory_section(
+/// The section that tells what the page is of, and where the blocks of the program stand, of which each named one is a place.
+pub fn push_memory_section<V: View>(
     alloc: Global,
     page: &mut Vec<u8>,
+    view: &V,
     targets: &Targets,
     beside: &Beside,
 ) -> Result<(), AllocError>
-    ensures { OnOk result (AddsSection targets.now PageSection.Memory [] [] page.old.items page.new.items) }
+    ensures { OnOk result (AddsMemorySection targets.now page.old.items page.new.items) }
 {
     push_begin(page, PageSection::Memory)?;
     push_heading(page, targets, b"Memory")?;
+    push_summary(alloc, page, view, targets)?;
     push_blocks(alloc, page, targets, &beside.blocks)?;
     push_closing(page, Tag::Section)?;
     Ok(())

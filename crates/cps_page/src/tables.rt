@@ -1,12 +1,13 @@
 //! Tables beside the texts: the blocks of memory, and the forms of instructions. They are notes.
-ghost use Rattle.std.specs.Prelude.{◌≡◌, [], OnOk};
+ghost use Rattle.std.specs.Prelude.{◌≡◌, ◌≤◌, [], ◌∷◌, OnOk, length};
 ghost use Rattle.cps_markup.specs.Links.{Leads};
 ghost use Rattle.cps_markup.specs.Code.Adding.{Adds};
+ghost use Rattle.cps_page.specs.Code.Making.{blocks_among};
 
-use crate::beside::{Block, Form};
+use crate::beside::{Block, BlockName, Form};
 use cps_list::{fill_columns, push_decimal};
-use cps_markup::{Style, Targets, push_note};
-use cps_text::push_octal;
+use cps_markup::{Place, Style, Targets, push_note, push_note_at};
+use cps_text::{Name, push_octal};
 use std::alloc::{AllocError, Global};
 use std::cmp::Ordering;
 
@@ -32,21 +33,79 @@ const BEFORE_COUNT: usize = 30;
 const BEFORE_SENTENCE: usize = 39;
 
 /// Appends the table of blocks: where they stand, how many words they have, and a bar with `#` for words that are filled and `-` for words that are only
-/// reserved.
+/// reserved. Each named one is a place.
 pub fn push_blocks(
     alloc: Global,
     page: &mut Vec<u8>,
     targets: &Targets,
     blocks: &[Block],
 ) -> Result<(), AllocError>
-    ensures { OnOk result (Adds (Leads targets.now) [] [] page.old.items page.new.items) }
+    ensures { OnOk result (Adds (Leads targets.now) [] (blocks_among targets.now.blocks.items) page.old.items page.new.items) }
 {
     let end = end_of(blocks);
+    let mut rest = blocks;
+    for name in &targets.blocks {
+        let (others, named) = rest.split_at(count_before(rest, *name));
+        let memory = Memory { targets, end };
+        push_others(alloc, page, &memory, others)?;
+        let (block, behind) = named.split_at(named.len().min(1));
+        push_named(alloc, page, &memory, *name, block)?;
+        rest = behind;
+    }
+    push_others(alloc, page, &Memory { targets, end }, rest)
+}
+
+/// The memory up to the end of all blocks.
+#[derive(Clone, Copy)]
+struct Memory<'a> {
+    targets: &'a Targets,
+    end: u64,
+}
+
+/// How many blocks stand before the one of a name; none where there is none of it.
+fn count_before(blocks: &[Block], name: Name) -> usize
+    ensures { result ≤ length blocks.now }
+{
+    for (at, block) in blocks.iter().enumerate() {
+        match block.name {
+            BlockName::Named(other) if other == name => return at,
+            _ => {}
+        }
+    }
+    0
+}
+
+/// Blocks that are no place.
+fn push_others(
+    alloc: Global,
+    page: &mut Vec<u8>,
+    memory: &Memory<'_>,
+    blocks: &[Block],
+) -> Result<(), AllocError>
+    ensures { OnOk result (Adds (Leads memory.now.targets.now) [] [] page.old.items page.new.items) }
+{
     for block in blocks {
-        let row = block_row(alloc, targets, block, end)?;
-        push_note(page, targets, Style::Table, &row)?;
+        let row = block_row(alloc, memory, block)?;
+        push_note(page, memory.targets, Style::Table, &row)?;
     }
     Ok(())
+}
+
+/// The block of a name, if there is one.
+fn push_named(
+    alloc: Global,
+    page: &mut Vec<u8>,
+    memory: &Memory<'_>,
+    name: Name,
+    blocks: &[Block],
+) -> Result<(), AllocError>
+    ensures { OnOk result (Adds (Leads memory.now.targets.now) [] (Place.Block name ∷ []) page.old.items page.new.items) }
+{
+    let row = match blocks.first() {
+        Some(block) => block_row(alloc, memory, block)?,
+        None => Vec::new(alloc),
+    };
+    push_note_at(page, memory.targets, Place::Block(name), &row)
 }
 
 /// The address behind all blocks.
@@ -58,36 +117,27 @@ fn end_of(blocks: &[Block]) -> u64 {
     end
 }
 
-fn block_row(
-    alloc: Global,
-    targets: &Targets,
-    block: &Block,
-    end: u64,
-) -> Result<Vec<u8>, AllocError> {
+fn block_row(alloc: Global, memory: &Memory<'_>, block: &Block) -> Result<Vec<u8>, AllocError> {
     let mut row = Vec::new(alloc);
-    row.extend_from_slice(&block.name)?;
+    row.extend_from_slice(block.name.text())?;
     fill_columns(&mut row, 0, BEFORE_ADDRESS)?;
     push_octal(&mut row, block.address, ADDRESS_DIGITS)?;
     fill_columns(&mut row, 0, BEFORE_WORDS)?;
     push_decimal(&mut row, block.words)?;
     row.extend_from_slice(b" words")?;
     fill_columns(&mut row, 0, BEFORE_BAR)?;
-    push_bar(&mut row, targets, block, end)?;
+    push_bar(&mut row, memory, block)?;
     Ok(row)
 }
 
-/// Appends the memory up to an address, with the words of a block.
-fn push_bar(
-    row: &mut Vec<u8>,
-    targets: &Targets,
-    block: &Block,
-    end: u64,
-) -> Result<(), AllocError> {
+/// Appends a bar of the memory, with the words of a block.
+fn push_bar(row: &mut Vec<u8>, memory: &Memory<'_>, block: &Block) -> Result<(), AllocError> {
     let behind = block.address.saturating_add(block.words);
     for column in 0..BAR_COLUMNS {
-        let first = share(column, end);
-        let next = share(column + 1, end).max(first.saturating_add(1));
-        row.push(bar_mark(targets, first.max(block.address), next.min(behind)))?;
+        let first = share(column, memory.end);
+        let next = share(column + 1, memory.end).max(first.saturating_add(1));
+        let mark = bar_mark(memory.targets, first.max(block.address), next.min(behind));
+        row.push(mark)?;
     }
     Ok(())
 }

@@ -1,6 +1,6 @@
 //! What is told beside the rows of a text, as these are gone through.
 use crate::beside::{Beside, Cause, FormUse};
-use cps_markup::RowForm;
+use cps_markup::{LineLook, RowForm, has_code};
 
 /// The columns of flags.
 const FLAG_COLUMNS: usize = 8;
@@ -20,8 +20,9 @@ pub struct Telling<'a> {
     told: usize,
     /// How many uses of forms are passed.
     passed: usize,
-    /// The address of the last row that had one, None before that.
+    /// The address of the last row that had one, and of the last of these that had a code, None before that.
     address: Option<u32>,
+    coded: Option<u32>,
 }
 
 impl<'a> Telling<'a> {
@@ -32,6 +33,7 @@ impl<'a> Telling<'a> {
             told: 0,
             passed: 0,
             address: None,
+            coded: None,
         }
     }
 
@@ -76,14 +78,26 @@ impl<'a> Telling<'a> {
         form
     }
 
-    /// Whether a row has another address than the last that had one.
+    /// Whether a row has another address than the last that had one; where it has a code, than the last that had one too.
     pub fn takes_address(&mut self, row: &[u8]) -> bool {
         let Some(address) = address_in(row) else {
             return false;
         };
-        let is_new = self.address != Some(address);
+        let last = if has_code(row) {
+            self.coded.replace(address)
+        } else {
+            self.address
+        };
         self.address = Some(address);
-        is_new
+        last != Some(address)
+    }
+
+    /// How the rows of a line look.
+    pub fn look_of(&self, line: u32) -> LineLook {
+        match self.beside.looks.get(line.saturating_sub(1) as usize) {
+            Some(look) => *look,
+            None => LineLook::Plain,
+        }
     }
 
     fn form(&self, before: u32) -> Option<RowForm<'a>> {

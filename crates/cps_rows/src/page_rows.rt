@@ -2,7 +2,7 @@
 use super::part_rows::enter_source;
 use super::text_assertions::assert_row;
 use cps_live::Session;
-use cps_page::{Beside, Block, Cause, Form, FormUse, Frame, make_page};
+use cps_page::{Beside, Block, BlockName, Cause, Form, FormUse, Frame, make_page};
 use cps_state::Hashing;
 use std::alloc::{AllocError, Global};
 
@@ -16,20 +16,21 @@ START    SA1     B1+3
 ";
 
 /// Lines lead to themselves, a symbol in the location field to its row, one that is read to its definition, an address to its word where that begins, a word
-/// to its first line. A digit of a code and the operand that makes it look alike. What stands beside the texts is in notes.
+/// to its first line, and each digit of it to the line that made it. A digit of a code and the operand that makes it look alike. What stands beside the texts is in notes.
 const PAGE: &str = "<T1|<section id=\"memory\"><h2>Memory</h2>\
+<small class=\"t\">central processor, 7 lines, 1 word, 1 symbol, 0 flagged lines</small>\
 <small class=\"t\">nominal   000100    2 words       ...............................................#</small>\
 </section><section id=\"listing\"><h2>Listing</h2>\
 <div id=\"1\"><div><span>                                          <a href=\"#1\">1</a> </span>         IDENT   T1</div>
 </div><div id=\"2\"><div><span>                                          <a href=\"#2\">2</a> </span>         ABS</div>
-</div><div id=\"3\"><div><span>         <a href=\"#w100\">000100</a>                           <a href=\"#3\">3</a> </span>         ORG     100B</div>
-</div><div id=\"4\"><div><span>         <i class=\"z\">000100</i> 51<i class=\"i\">1</i><i class=\"j\">1</i><i class=\"K\">000003</i>                <a href=\"#4\">4</a> </span>\
+</div><div id=\"3\"><div><span>         <i class=\"z\"><a href=\"#w100\">000100</a></i>                           <a href=\"#3\">3</a> </span>         ORG     100B</div>
+</div><div id=\"4\"><div><span>         <a href=\"#w100\">000100</a> 51<i class=\"i\">1</i><i class=\"j\">1</i><i class=\"K\">000003</i>                <a href=\"#4\">4</a> </span>\
 <a href=\"#START\">START</a>    <i title=\"&lt;set&gt;\">SA</i><i class=\"i\">1</i>     <i class=\"j\">B1</i>+<i class=\"K\">3</i></div>
 </div><div id=\"5\"><div><span>         <i class=\"z\">000100</i> 0400000100                <a href=\"#5\">5</a> </span>         EQ      <a href=\"#4\">START</a></div>
 <small class=\"c\">U a &amp; b</small></div><div id=\"6\"><div><span>                                          <a href=\"#6\">6</a> </span><i class=\"x\">* &lt;&amp;&gt;</i></div>
 </div><div id=\"7\"><div><span>                                          <a href=\"#7\">7</a> </span>         END</div>
 </div></section><section id=\"words\"><h2>Words</h2><div>IDENT T1</div>
-<div id=\"w100\"><div><i class=\"z\"><a href=\"#4\">000100</a></i> 51110000030400000100</div>
+<div id=\"w100\"><div><i class=\"z\"><a href=\"#4\">000100</a></i> <a href=\"#4\">5111000003</a><a href=\"#5\">0400000100</a></div>
 </div></section><section id=\"symbols\"><h2>Symbols</h2><div id=\"START\"><div><a href=\"#4\">START</a>    <i class=\"z\">00000000000000000100 </i><a href=\"#4\">4</a> <a href=\"#5\">5</a></div>
 </div></section><section id=\"flags\"><h2>Flags</h2><div>0 flagged lines</div>
 </section><section id=\"instructions\"><h2>Instructions</h2>\
@@ -64,7 +65,7 @@ fn beside(alloc: Global) -> Result<Beside, AllocError> {
         words: text(alloc, b"a & b")?,
     })?;
     beside.blocks.push(Block {
-        name: text(alloc, b"nominal")?,
+        name: BlockName::Nominal,
         address: 64,
         words: 2,
     })?;

@@ -2,6 +2,7 @@
 use Rattle.std.specs.Prelude.{◌≡◌, ℕ, ◌+◌, ◌<◌, ◌≤◌, ◌^◌, ⊤, Bool, true, List, [], ◌∷◌, ◌++◌, All, count_by, map, filter, find, length, Option, None, Some, option_map}
 use Rattle.std.specs.Ordering.{is_lt}
 use Rattle.cps_text.specs.declared.name.Name.{Name}
+use Rattle.cps_expr.specs.Value.{same_name}
 use Rattle.cps_list.specs.Assembly.{Assembly}
 use Rattle.cps_list.specs.Binary.{binary_text}
 use Rattle.cps_list.specs.Flagged.{flags_text}
@@ -9,7 +10,7 @@ use Rattle.cps_list.specs.ListingText.{listing_text}
 use Rattle.cps_list.specs.declared.mention.Mention.{Mention}
 use Rattle.cps_list.specs.Symbols.{defining_line, mentions_from, mentions_of, name_order, symbols_text}
 use Rattle.cps_markup.specs.declared.place.Place.{Place}
-use Rattle.cps_markup.specs.declared.place.Place.TheVariants.{Line, Symbol, Word, Section}
+use Rattle.cps_markup.specs.declared.place.Place.TheVariants.{Line, Symbol, Word, Block, Section}
 use Rattle.cps_markup.specs.declared.place.PageSection.{PageSection}
 use Rattle.cps_markup.specs.declared.place.PageSection.TheVariants as page
 use Rattle.cps_markup.specs.declared.targets.Entry.{Entry}
@@ -79,6 +80,13 @@ pub record AreWords (words : List WordEntry) : Type 0 where
   pub once : (digits : ℕ) → count_by (is_at digits) words ≤ 1
   pub written : All (λ word. IsWritten (Word word.digits)) words
 
+-- ---- blocks that are led to
+
+-- each block once
+pub record AreBlocks (blocks : List Name) : Type 0 where
+  pub once : (name : Name) → count_by (same_name name) blocks ≤ 1
+  pub written : All (λ name. IsWritten (Block name)) blocks
+
 -- ---- places
 
 -- lines that have numbers from one on
@@ -92,11 +100,14 @@ symbols_among entries = map (λ entry. Symbol entry.name) entries
 abbrev pub words_among : List WordEntry → List Place
 words_among words = map (λ word. Word word.digits) words
 
+abbrev pub blocks_among : List Name → List Place
+blocks_among blocks = map (λ name. Block name) blocks
+
 -- all places of a page
 abbrev pub all_places : List (List ℕ) → Targets → List Place
 all_places lines targets =
-    Section page.Memory ∷ (Section page.Listing ∷ (lines_from 1 lines ++ Section page.Words ∷ (words_among targets.words.items ++ Section page.Symbols
-    ∷ (symbols_among targets.entries.items ++ Section page.Flags ∷ (Section page.Instructions ∷ [])))))
+    Section page.Memory ∷ (blocks_among targets.blocks.items ++ Section page.Listing ∷ (lines_from 1 lines ++ Section page.Words
+    ∷ (words_among targets.words.items ++ Section page.Symbols ∷ (symbols_among targets.entries.items ++ Section page.Flags ∷ (Section page.Instructions ∷ [])))))
 
 -- ---- sections
 
@@ -107,6 +118,10 @@ pub record AddsSection (targets : Targets) (which : PageSection) (words : List �
   pub same_words : said inside ≡ words
   pub same_places : places inside ≡ here
   pub good : All (Leads targets) (links inside)
+
+-- a page has the table of blocks more, in which each named block is a place
+abbrev pub AddsMemorySection : Targets → List ℕ → List ℕ → Type 0
+AddsMemorySection targets old new = AddsSection targets page.Memory [] (blocks_among targets.blocks.items) old new
 
 -- a page has the listing more, in which each line is a place
 abbrev pub AddsListing : Targets → Assembly → List ℕ → List ℕ → Type 0
@@ -136,9 +151,10 @@ pub record AddsSections (targets : Targets) (assembly : Assembly) (old new : Lis
   pub same_places : places (body sections) ≡ all_places assembly.lines targets
   pub good : All (Leads targets) (links (body sections))
 
--- the lines, symbols and words of a source
+-- the lines, symbols, words and blocks of a source
 pub record AreTargets (assembly : Assembly) (targets : Targets) : Type 0 where
   pub lines : targets.count ≡ length assembly.lines
   pub symbols : AreEntries (mentions_from 1 assembly.outcomes) targets.entries.items
   pub words : AreWords targets.words.items
+  pub blocks : AreBlocks targets.blocks.items
   pub few : length assembly.lines < 2 ^ 32

@@ -9,5 +9,5 @@ pub returns : goal.returns
 returns c =
     let P = Leads c.args.targets.now in
     let words = c.args.words.now in
-    adds-element P tag.Part (styled c.args.style ∷ []) words [] c.args.page.now.items c.push_opening.new.page.items c.push_link.new.page.items c.push_closing.new.page.items
-    c.in_ok-push_opening.ensures c.in_ok-push_link.ensures c.in_ok-push_closing.ensures (all-none P)
+    adds-element P tag.Part (styled c.args.style ∷ []) words [] c.args.page.now.items c.push_part_opening.new.page.items c.push_link.new.page.items c.push_closing.new.page.items
+    c.in_ok-push_part_opening.ensures c.in_ok-push_link.ensures c.in_ok-push_closing.ensures (all-none P)

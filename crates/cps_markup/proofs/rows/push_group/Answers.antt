@@ -8,5 +8,5 @@ use Rattle.cps_markup.proofs.rows.push_group.Goals as goal
 pub returns : goal.returns
 returns c =
     let P = Leads c.args.targets.now in
-    adds-element P tag.Row (identifier c.args.place ∷ []) c.args.rows.now [] c.args.page.now.items c.push_opening.new.page.items c.push_rows.new.page.items c.push_closing.new.page.items
-    c.in_ok-push_opening.ensures c.in_ok-push_rows.ensures c.in_ok-push_closing.ensures (all-none P)
+    adds-element P tag.Row (identifier c.args.place ∷ []) c.args.rows.now [] c.args.page.now.items c.push_place_opening.new.page.items c.push_rows.new.page.items c.push_closing.new.page.items
+    c.in_ok-push_place_opening.ensures c.in_ok-push_rows.ensures c.in_ok-push_closing.ensures (all-none P)

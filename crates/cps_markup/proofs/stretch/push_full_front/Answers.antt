@@ -1,11 +1,8 @@
-use Rattle.std.proofs.Common.{[]}
-use Rattle.cps_markup.specs.declared.tag.Tag.TheVariants as tag
 use Rattle.cps_markup.specs.Links.{Leads}
-use Rattle.cps_markup.proofs.AddsLemmas.{adds-element, all-none}
+use Rattle.cps_markup.proofs.AddsLemmas.{adds-front}
 use Rattle.cps_markup.proofs.stretch.push_full_front.Goals as goal
 
 pub returns : goal.returns
 returns c =
-    let P = Leads c.args.targets.now in
-    adds-element P tag.Front [] c.args.front.now [] c.args.page.now.items c.push_opening.new.page.items c.push_painted.new.page.items c.push_closing.new.page.items
-    c.in_ok-push_opening.ensures c.in_ok-push_painted.ensures c.in_ok-push_closing.ensures (all-none P)
+    adds-front (Leads c.args.targets.now) c.has_stripe.result c.args.front.now c.args.page.now.items c.push_front_opening.new.page.items c.push_painted.new.page.items c.push_closing.new.page.items
+    c.in_ok-push_front_opening.ensures c.in_ok-push_painted.ensures c.in_ok-push_closing.ensures

@@ -13,7 +13,7 @@ loop-before-preserved g c = λ last later.
     c.loop-before.invariant last
     (adds-line P source.lines source.outcomes c.loop-before.before c.in-Some.line.now c.bytes.result.now c.in-Some-outcome.outcome.now c.rows.result.now
     rows c.loop-before.page.items c.push_line.new.page.items last
-    c.in-Some.ensures.line c.in-Some-outcome.ensures.outcome c.bytes.ensures.value c.rows.ensures (c.of.ensures.text ∙ c.deref.ensures.value ∙ c.in_ok-text.ensures) here later)
+    c.in-Some.ensures.line c.in-Some-outcome.ensures.outcome c.bytes.ensures.value c.rows.ensures (c.of.ensures.text ∙ c.deref.ensures.value ∙ c.in_ok-fill_rows.ensures) here later)
 
 pub returns : goal.returns
 returns g c =

@@ -1,0 +1,14 @@
+use Rattle.std.proofs.Common.{[], ◌∷◌}
+use Rattle.cps_markup.specs.declared.style.Style.TheVariants.{Table}
+use Rattle.cps_markup.specs.declared.tag.Tag.TheVariants as tag
+use Rattle.cps_markup.specs.Links.{Leads}
+use Rattle.cps_markup.specs.Markup.{identifier, styled}
+use Rattle.cps_markup.proofs.AddsLemmas.{adds-element, adds-text, all-none}
+use Rattle.cps_markup.proofs.link.push_note_at.Goals as goal
+
+pub returns : goal.returns
+returns c =
+    let P = Leads c.args.targets.now in
+    let words = c.args.words.now in
+    adds-element P tag.Note (styled Table ∷ identifier c.args.place ∷ []) words [] c.args.page.now.items c.push_opening.new.page.items c.push_text.new.page.items c.push_closing.new.page.items
+    c.in_ok-push_opening.ensures (adds-text P words _ _ c.in_ok-push_text.ensures) c.in_ok-push_closing.ensures (all-none P)
