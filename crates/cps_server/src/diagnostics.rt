@@ -14,6 +14,7 @@ use crate::diagnostic::{
 };
 use crate::first_marks::MOST_TOLD;
 use crate::idle_lines::{IdleLines, runs_among};
+use crate::kept_notes::KeptNotes;
 use crate::lead::Lead;
 use crate::leads::lines_led_to;
 use crate::mark::Mark;
@@ -28,6 +29,12 @@ use cps_list::{View, push_decimal};
 use cps_rpc::{Client, Encoding, push_frame, units_before};
 use std::alloc::{AllocError, Global};
 use std::str;
+
+/// About how many bytes a diagnostic takes.
+const MEAN_LEN: usize = 224;
+
+/// How many bytes stand beside a list and a URI at most, if the URI has no byte that is escaped.
+const FRONT_LEN: usize = 160;
 
 /// A text of which an editor is told.
 #[derive(Clone, Copy)]
@@ -77,7 +84,7 @@ pub fn list_of(
     let marks = marks_of(alloc, marked)?;
     let all = marks.first.as_slice();
     let (first, next) = all.split_at(MOST_TOLD.min(all.len()));
-    let mut list = Vec::new(alloc);
+    let mut list = Vec::with_capacity(alloc, room_for(all.len(), marked.notes()))?;
     list.push(b'[')?;
     push_marks(alloc, deck, first, &mut list)?;
     let left = MarksLeft {
@@ -95,6 +102,12 @@ pub fn list_of(
     push_all_notes(alloc, deck, marked.notes(), later, &mut list)?;
     list.push(b']')?;
     Ok(list)
+}
+
+/// About as many bytes as the diagnostics of some marks and of notes take.
+fn room_for(marks: usize, notes: &KeptNotes) -> usize {
+    let count = marks.saturating_add(notes.told(true).len());
+    count.saturating_add(1).saturating_mul(MEAN_LEN)
 }
 
 /// Appends the diagnostics of marks in a deck to the beginning of a list.
@@ -310,7 +323,11 @@ pub fn say_list(
 ) -> Result<(), AllocError>
     ensures { OnOk result (said.new.items ≡ said.old.items ++ frame_of (published_text text.entry.uri.now text.entry.version list.now)) }
 {
-    let mut message = Vec::new(alloc);
+    let room = list
+        .len()
+        .saturating_add(text.uri.len())
+        .saturating_add(FRONT_LEN);
+    let mut message = Vec::with_capacity(alloc, room)?;
     push_published(alloc, &mut message, text, list)?;
     push_frame(said, &message)
 }

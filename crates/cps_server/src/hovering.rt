@@ -6,7 +6,7 @@ ghost use Rattle.cps_mention.specs.Agreement.{AreMentions};
 ghost use Rattle.cps_server.specs.Document.{source_of_text};
 ghost use Rattle.cps_server.specs.Hovers as hovers;
 ghost use Rattle.cps_server.specs.Results as results;
-ghost use Rattle.cps_server.specs.Code.Naming.{ShowsNamed, TellsHover, lent};
+ghost use Rattle.cps_server.specs.Code.Naming.{ShowsNamed, ShowsWord, TellsHover, lent, range_of_mention};
 
 use crate::document::Document;
 use crate::locations::{caret_at, known_mentions, spots_under, stretch_range};
@@ -50,7 +50,7 @@ fn hover_named(
 }
 
 fn hover_word(alloc: Global, deck: QueriedText<'_>, position: Position) -> Result<Value, AllocError>
-    ensures { IfOk result (λ json. results.TellsShown deck.entry.encoding deck.entry.client.markup deck.entry.document.now position (view json)) }
+    ensures { IfOk result (λ json. ShowsWord deck.entry position (view json)) }
 {
     let front = word_row(alloc, deck.document, deck.encoding, position)?;
     let shown = shown_behind(alloc, deck.document, position.line, front)?;
@@ -140,7 +140,7 @@ fn range_named(
     caret: Caret,
     mention: Option<&Mention>,
 ) -> Result<Option<Value>, AllocError>
-    ensures { IfOk result (λ range. option_map view range ≡ hovers.range_of_mention deck.entry.encoding deck.entry.document.now caret (lent mention.entry)) }
+    ensures { IfOk result (λ range. option_map view range ≡ range_of_mention deck.entry caret mention.entry) }
 {
     let Some(mention) = mention else {
         return Ok(None);

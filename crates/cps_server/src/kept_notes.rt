@@ -14,8 +14,8 @@ use std::mem;
 /// The most notes that are told. All are sent again with each key.
 const MOST_NOTED: usize = 100;
 
-/// The notes of a source, and its lines that nothing assembles, with what they rest on of each line. A change makes anew what it touches; only where that has
-/// to do with notes in another way are the first ones looked for again.
+/// The notes of a source, and its lines that nothing assembles, with what they rest on of each line. A change makes anew what it touches; only where others may
+/// be told then are the first ones looked for again.
 pub struct KeptNotes {
     alloc: Global,
     /// Of each line of the source, in their order.
@@ -152,7 +152,7 @@ impl KeptNotes {
         Ok(())
     }
 
-    /// Makes anew what is noted of a line, if there is such a line.
+    /// Makes anew what is noted of a line, if there is such a line. A symbol without a value is in no note, whoever reads it.
     fn renew(&mut self, document: &Document, place: usize) -> Result<(), AllocError> {
         if place >= self.lines.len() {
             return Ok(());
@@ -162,10 +162,15 @@ impl KeptNotes {
         if line.is_as(&self.lines[place]) {
             return Ok(());
         }
+        let finals = document.session().finals();
+        let tells_other = !line.tells_as(&self.lines[place]);
+        let gains = self.readers.gain_by(&line, finals);
         self.readers.add(&line)?;
         let gone = mem::replace(&mut self.lines[place], line);
-        self.is_stale = true;
-        self.readers.remove(&gone)
+        let loses = self.readers.lose_by(&gone, finals);
+        self.readers.remove(&gone)?;
+        self.is_stale = self.is_stale || tells_other || gains || loses;
+        Ok(())
     }
 
     // ---- what is told

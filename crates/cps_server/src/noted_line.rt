@@ -75,10 +75,12 @@ impl NotedLine {
 
     /// Whether another line has to do with notes as this one.
     pub fn is_as(&self, other: &NotedLine) -> bool {
-        self.idle == other.idle
-            && self.ends_program == other.ends_program
-            && self.reads == other.reads
-            && self.notes == other.notes
+        self.tells_as(other) && self.ends_program == other.ends_program && self.reads == other.reads
+    }
+
+    /// Whether another line may have the same notes, and is idle or not as this one.
+    pub fn tells_as(&self, other: &NotedLine) -> bool {
+        self.idle == other.idle && self.notes == other.notes
     }
 }
 

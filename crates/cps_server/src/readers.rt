@@ -1,6 +1,8 @@
 //! How many lines read symbols.
 
 use crate::noted_line::NotedLine;
+use cps_final::Finals;
+use cps_list::symbol_value;
 use cps_state::Hashing;
 use cps_text::Name;
 use std::alloc::{AllocError, Global};
@@ -33,6 +35,19 @@ impl Readers {
     /// Whether a line reads a symbol.
     pub fn reads(&self, name: Name) -> bool {
         self.counts.get(&name).is_some()
+    }
+
+    /// Whether a line that comes is the first to read a symbol that has a value.
+    pub fn gain_by(&self, line: &NotedLine, finals: &Finals) -> bool {
+        line.reads
+            .iter()
+            .any(|name| !self.reads(*name) && has_value(finals, *name))
+    }
+
+    /// Whether a line that goes is the last to read a symbol that has a value.
+    pub fn lose_by(&self, line: &NotedLine, finals: &Finals) -> bool {
+        line.reads.iter().any(|name| self.counts.get(name).copied() == Some(1)
+            && has_value(finals, *name))
     }
 
     /// Whether a line ends the program.
@@ -72,4 +87,8 @@ impl Readers {
         }
         Ok(())
     }
+}
+
+fn has_value(finals: &Finals, name: Name) -> bool {
+    symbol_value(finals, name).is_some()
 }

@@ -2,6 +2,7 @@
 use Rattle.std.specs.Prelude.{Bool, List, Option, option_map}
 use Rattle.std.specs.Borrow.{Bor}
 use Rattle.serde_json.specs.Data.{Data}
+use Rattle.cps_mention.specs.declared.caret.Caret.{Caret}
 use Rattle.cps_mention.specs.declared.mention.Mention.{Mention}
 use Rattle.cps_mention.specs.declared.spot.Spot.{Spot}
 use Rattle.cps_mention.specs.Spots.{definitions}
@@ -10,6 +11,7 @@ use Rattle.cps_server.specs.declared.queried_text.QueriedText.{QueriedText}
 use Rattle.cps_server.specs.Hovers as hovers
 use Rattle.cps_server.specs.Locations as told
 use Rattle.cps_server.specs.Openers as openers
+use Rattle.cps_server.specs.Results as results
 
 abbrev pub TellsDefinition : QueriedText → Position → Data → Type 0
 TellsDefinition deck position json = told.TellsDefinition deck.encoding deck.uri.now deck.document.now position json
@@ -60,3 +62,11 @@ ShowsNamed deck position json = hovers.ShowsNamed deck.encoding deck.client.mark
 -- the mention that is lent
 abbrev pub lent : Option (Bor Mention) → Option Mention
 lent mention = option_map (λ lent. lent.now) mention
+
+-- where the mention that is lent stands around a caret
+abbrev pub range_of_mention : QueriedText → Caret → Option (Bor Mention) → Option Data
+range_of_mention deck caret mention = hovers.range_of_mention deck.encoding deck.document.now caret (lent mention)
+
+-- what is shown by the word at a position
+abbrev pub ShowsWord : QueriedText → Position → Data → Type 0
+ShowsWord deck position json = results.TellsShown deck.encoding deck.client.markup deck.document.now position json

@@ -20,7 +20,7 @@ returns c =
     let is_all : all ≡ marks = c.as_slice-all.ensures.value in
     let front = c.split_at.ensures.front ∙ ap (λ n. take n all) c.min.ensures ∙ take_min most_told all ∙ ap (take most_told) is_all in
     let back = c.split_at.ensures.back ∙ ap (λ n. drop n all) c.min.ensures ∙ drop_min most_told all ∙ ap (drop most_told) is_all in
-    let opened = c.in_ok-push.ensures.items ∙ ap (λ list. list ++ codes "[") c.new-list.ensures.items in
+    let opened = c.in_ok-push.ensures.items ∙ ap (λ list. list ++ codes "[") c.in_ok-list.ensures.items in
     let same = c.document.ensures in
     let lists = subst (λ (t : List ℕ). AddsMarks to (source_lines t) (map place_of c.split_at.result.0.now) c.push.new.self.items c.push_marks.new.list.items)
     same c.in_ok-push_marks.ensures in
