@@ -23,6 +23,8 @@ READING = DEFINING - {"NO", "PS", "PSN"} | {"ORG", "IFEQ", "IFGT", "IFLE"}
 # The operations that open lines, and those that part or close them.
 OPENERS = {"IDENT", "MACRO", "DUP", "IF", "IFEQ", "IFNE", "IFGT", "IFGE", "IFLT", "IFLE"}
 CLOSERS = {"ELSE", "ENDIF", "ENDD", "ENDM", "END"}
+# A line that is a heading.
+HEADING = re.compile(rb"\*\*.*[^\x00-\x20*]")
 # How the protocol counts headings and macros.
 NAMESPACE, FUNCTION = 3, 12
 # How a place counts.
@@ -123,8 +125,9 @@ def by_line(items, key):
 class Shown:
     """What a batch and a check write of the lines of a text, and where a plain search finds its symbols. `texts` runs these."""
 
-    def __init__(self, texts, text, is_utf8, form):
+    def __init__(self, texts, text, is_utf8, form, takes_trees):
         self.lines, self.is_utf8, self.form, self.texts, self.reports = source_lines(text), is_utf8, form, texts, None
+        self.takes_trees = takes_trees
         self.source = text if takes(text) else cards_of(text)
         self.rows = []
         for row in texts.part("listing", self.source):
@@ -291,10 +294,20 @@ class Shown:
         if not name:
             line = next((told["start"]["line"] for kind, told in spots if kind == DEFINED), number)
             fronts.append(self.shown(line) if line != number else [])
+        if not name and not spots:
+            fronts = [self.manual(position)]
         ranges = [{"range": told} for told in around([told for _, told in spots], self.position(number, self.column(position)))] or [{}]
         contents = [self.marked(front + self.shown(number) + self.causes(number)) for front in fronts]
         wanted = [{"contents": one, **told} for one in contents for told in ranges]
         return None if said in wanted else f"{said} is shown, and not one of {wanted}"
+
+    def manual(self, position):
+        """The rows that are told of the operation around a position, as of a word. A letter alone, or digits, are told of otherwise."""
+        around = self.around(position)
+        word = self.text_at(around) if self.field(position) == 1 else ""
+        if word != "=" and not re.fullmatch(r"[A-Z=][A-Z0-9.=]+", word):
+            return []
+        return self.texts.run(["explain", word], b"")[1].split("\n")[:-1]
 
     def shown(self, number):
         """The first rows of a line."""
@@ -424,8 +437,10 @@ class Shown:
     def in_order(self, method, more, answer):
         """An answer with the symbols of one line in the order of their names, and of an outline or completions these alone, if what stands behind them may."""
         if method == "documentSymbol" and isinstance(answer, list):
-            symbols = [one for one in answer if one["kind"] not in (FUNCTION, NAMESPACE)]
-            if answer[: len(symbols)] == symbols and all(map(self.is_outlined, answer[len(symbols) :])):
+            rows = self.rows_of_tree(answer) if self.takes_trees else answer
+            symbols = [one for one in rows if one["kind"] not in (FUNCTION, NAMESPACE)]
+            others = [one for one in rows if one["kind"] in (FUNCTION, NAMESPACE)]
+            if (self.takes_trees or rows == symbols + others) and all(map(self.is_outlined, others)):
                 return by_line(symbols, lambda one: (one["range"]["start"]["line"], one["name"]))
         if method == "completion" and isinstance(answer, list):
             lines = self.completions(more["position"])[1]
@@ -433,6 +448,22 @@ class Shown:
             if self.may_be_offered(others, more["position"]):
                 return by_line(symbols, lambda one: (lines.get(one.get("label"), -1), one.get("label")))
         return answer
+
+    def rows_of_tree(self, answer):
+        """The rows of a tree without its headings, each told in the lines of its section. Nothing but what was told where one isn't."""
+        heads = [number for number, line in enumerate(self.lines) if HEADING.match(line)]
+        sections = answer[len(answer) - len(heads) :] if heads else []
+        rows = [[one for one in answer if one not in sections], *(one.get("children") or [] for one in sections)]
+        ends = [*heads, min(len(self.lines), MOST_LINES)]
+        for first, end, within in zip([0, *heads], ends, rows):
+            lines = [one["range"]["start"]["line"] for one in within]
+            if lines != sorted(lines) or not all(first <= line < end and "children" not in one for line, one in zip(lines, within)):
+                return answer
+        for first, end, one in zip(heads, ends[1:], sections):
+            whole = {"start": {"line": first, "character": 0}, "end": {"line": end, "character": 0}}
+            if (one["kind"], one["detail"], one["range"]) != (NAMESPACE, "heading", whole) or one["selectionRange"]["start"]["line"] != first:
+                return answer
+        return [one for within in rows for one in within]
 
     def is_outlined(self, one):
         """Whether a macro or a heading is told where its name stands, or all of a line whose statements define a macro."""

@@ -9,6 +9,7 @@ pub mod TextMarksLemmas
 pub mod AgreementLemmas
 mod WorkedRows
 mod RenameLemmas
+mod OutlineLemmas
 mod RowLemmas
 mod TellingLemmas
 mod CompletionLemmas

@@ -1,7 +1,8 @@
 -- No float is in what is told.
 use Rattle.std.proofs.Common.{◌≡◌, refl, subst, ap, ◌∙◌, ℕ, Bool, true, false, ◌||◌, List, [], ◌∷◌, ◌++◌, ◌-◌, Option, None, Some, ⊎_elim, inl, inr}
-use Rattle.std.specs.Prelude.{codes, flat_map, length, map, option_map}
+use Rattle.std.specs.Prelude.{All, codes, flat_map, length, map, option_map}
 use Rattle.std.specs.List.{AllZip, range_with_len}
+use Rattle.std.proofs.lemmas.List.Elements.{All-head, All-tail}
 use Rattle.serde_json.specs.Data.{Data}
 use Rattle.serde_json.specs.View.{items_of}
 use Rattle.serde_json.specs.Written.{has_float, items_have_float}
@@ -19,7 +20,7 @@ use Rattle.cps_rpc.specs.declared.markup.Markup.{Markup}
 use Rattle.cps_server.specs.Ranges.{IsInLine, told_units, word_at}
 use Rattle.cps_server.specs.Completions.{Offer, completion, macros_in, offered_at}
 use Rattle.cps_server.specs.Results.{TellsEach, TellsFirst, TellsHighlight, TellsMention, TellsShown, finals_in, hint_at, hint_in, hover, lines_within, listing_json, text_beside}
-use Rattle.cps_server.specs.Outline.{IsOutlined, TellsHeading, TellsMacro, TellsSymbol, TellsSymbols}
+use Rattle.cps_server.specs.Outline.{AreNamed, IsLaidOut, IsOutlined, IsRow, IsRowBetween, IsSection, Section, TellsHeading, TellsMacro, TellsSymbol, TellsSymbols}
 use Rattle.cps_server.specs.Foldings.{TellsFoldings, folding_json, lines_json}
 use Rattle.cps_server.specs.Signatures.{TellsSignature, part_json, signature_json}
 use Rattle.cps_server.specs.declared.signature.Signature.{Signature}
@@ -123,16 +124,48 @@ first-no-float uri (mention ∷ mentions) json tells = mention-no-float uri ment
 outlined-no-float : (kind : ℕ) (detail name : List ℕ) (line : ℕ) (json : Data) → IsOutlined kind detail name line json → has_float json ≡ false
 outlined-no-float kind detail name line json is = ap has_float is.is
 
-symbols-no-float : (text : List ℕ) (json : Data) → TellsSymbols text json → has_float json ≡ false
-symbols-no-float text json tells =
-    ap has_float tells.is
-    ∙ both-no-float (tells.symbols ++ tells.macros) tells.headings
-    (both-no-float tells.symbols tells.macros
+all-no-float : (P : Data → Type 0) → ((json : Data) → P json → has_float json ≡ false) → (told : List Data) → All P told → items_have_float (items_of told) ≡ false
+all-no-float P none [] all = refl
+all-no-float P none (json ∷ told) all =
+    ap (λ b. b || items_have_float (items_of told)) (none json (All-head P json told all)) ∙ all-no-float P none told (All-tail P json told all)
+
+row-no-float : (line : ℕ) (json : Data) → IsRow line json → has_float json ≡ false
+row-no-float line json is = outlined-no-float is.kind is.detail is.name line json is.is
+
+section-no-float : (section : Section) → IsSection section → has_float section.json ≡ false
+section-no-float section is =
+    ap has_float is.is
+    ∙ ap (λ b. b || false) (all-no-float (IsRowBetween is.heading.line is.end) (λ json between. row-no-float between.line json between.is) section.rows is.within)
+
+sections-no-float : (sections : List Section) → All IsSection sections → items_have_float (items_of (map (λ (section : Section). section.json) sections)) ≡ false
+sections-no-float [] all = refl
+sections-no-float (section ∷ sections) all =
+    ap (λ b. b || items_have_float (items_of (map (λ (section : Section). section.json) sections))) (section-no-float section (All-head IsSection section sections all))
+    ∙ sections-no-float sections (All-tail IsSection section sections all)
+
+named-no-float : (text : List ℕ) (rows : List Data) → AreNamed text rows → items_have_float (items_of rows) ≡ false
+named-no-float text rows named =
+    ap (λ all. items_have_float (items_of all)) named.are
+    ∙ both-no-float named.symbols named.macros
     (each-no-float (TellsSymbol (finals_in text))
     (λ mention json is. outlined-no-float 14 (value_text (value_of (finals_in text) mention.name)) (name_text mention.name) (mention.line - 1) json is)
-    (definitions (mentions_in text)) tells.symbols tells.each_symbol)
-    (each-no-float TellsMacro (λ name json is. outlined-no-float 12 (codes "macro") (name_text name) is.0 json is.1) (macros_in text) tells.macros tells.each_macro))
-    (each-no-float TellsHeading (λ heading json is. outlined-no-float 3 (codes "heading") is.0 heading.line json is.1) tells.heads tells.headings tells.each_heading)
+    (definitions (mentions_in text)) named.symbols named.each_symbol)
+    (each-no-float TellsMacro (λ name json is. outlined-no-float 12 (codes "macro") (name_text name) is.0 json is.1) (macros_in text) named.macros named.each_macro)
+
+laid-out-no-float : (is_tree : Bool) (rows told : List Data) → items_have_float (items_of rows) ≡ false → IsLaidOut is_tree rows told
+    → items_have_float (items_of told) ≡ false
+laid-out-no-float true rows told none tree =
+    ap (λ all. items_have_float (items_of all)) tree.is
+    ∙ both-no-float tree.front (map (λ (section : Section). section.json) tree.sections)
+    (all-no-float (λ json. (line : ℕ) × IsRow line json) (λ json is. row-no-float is.0 json is.1) tree.front tree.in_line) (sections-no-float tree.sections tree.each_section)
+laid-out-no-float false rows told none flat =
+    ap (λ all. items_have_float (items_of all)) flat.is
+    ∙ both-no-float rows flat.headings none
+    (each-no-float TellsHeading (λ heading json is. outlined-no-float 3 (codes "heading") is.0 heading.line json is.1) flat.heads flat.headings flat.each_heading)
+
+symbols-no-float : (is_tree : Bool) (text : List ℕ) (json : Data) → TellsSymbols is_tree text json → has_float json ≡ false
+symbols-no-float is_tree text json tells =
+    ap has_float tells.is ∙ laid-out-no-float is_tree tells.rows tells.told (named-no-float text tells.rows tells.named) tells.laid_out
 
 hint-no-float : (line character : ℕ) (text : Option (List ℕ)) → items_have_float (items_of (hint_in line character text)) ≡ false
 hint-no-float line character None = refl
@@ -237,7 +270,7 @@ tells-no-float References params encoding client uri text told tells =
 tells-no-float Highlights params encoding client uri text told tells =
     of-no-float (position_at params) _ (λ position json is. marked-no-float encoding text position json is) told tells
 tells-no-float Symbols params encoding client uri text told tells =
-    ap has_float_told tells.1 ∙ symbols-no-float text tells.0 tells.2
+    ap has_float_told tells.1 ∙ symbols-no-float client.takes_trees text tells.0 tells.2
 tells-no-float Hints params encoding client uri text told tells =
     of-no-float (range_at params) _ (λ range json is. ap has_float is ∙ hints-no-float encoding text _) told tells
 tells-no-float Completions params encoding client uri text told tells =

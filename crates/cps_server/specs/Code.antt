@@ -5,6 +5,7 @@ pub mod Listing
 pub mod Naming
 pub mod Opened
 pub mod Providing
+pub mod Outlining
 pub mod Owing
 pub mod Renaming
 pub mod Said

@@ -56,7 +56,7 @@ Tells References params encoding client uri text told =
     TellsOf (position_at params) (λ position json. TellsReferences (wants_definitions params) encoding uri text position json) told
 Tells Highlights params encoding client uri text told =
     TellsOf (position_at params) (λ position json. TellsHighlights encoding text position json) told
-Tells Symbols params encoding client uri text told = (json : Data) × (told ≡ Some json) × TellsSymbols text json
+Tells Symbols params encoding client uri text told = (json : Data) × (told ≡ Some json) × TellsSymbols client.takes_trees text json
 Tells Hints params encoding client uri text told = TellsOf (range_at params) (λ range json. json ≡ array (items_of (hints_in encoding text range))) told
 Tells Completions params encoding client uri text told =
     TellsOf (position_at params) (λ position json. json ≡ array (items_of (completions_at encoding text position))) told

@@ -6,10 +6,11 @@ ghost use Rattle.cps_mention.specs.Agreement.{AreMentions};
 ghost use Rattle.cps_server.specs.Document.{source_of_text};
 ghost use Rattle.cps_server.specs.Hovers as hovers;
 ghost use Rattle.cps_server.specs.Results as results;
-ghost use Rattle.cps_server.specs.Code.Naming.{ShowsNamed, ShowsWord, TellsHover, lent, range_of_mention};
+ghost use Rattle.cps_server.specs.Code.Naming.{IsFront, ShowsNamed, ShowsWord, TellsHover, range_of_mention};
 
 use crate::document::Document;
 use crate::locations::{caret_at, known_mentions, spots_under, stretch_range};
+use crate::manual_rows::manual_rows;
 use crate::queried_text::QueriedText;
 use crate::rows::{push_shown, shown_behind, symbol_row, word_row};
 use cps_mention::{Caret, Meaning, Mention, Spot};
@@ -43,7 +44,7 @@ fn hover_named(
     let caret = caret_at(deck, position);
     let mention = caret.mention_in(mentions);
     let spots = spots_under(alloc, deck.document, mention, mentions)?;
-    let front = rows_named(alloc, deck.document, position.line, mention, &spots)?;
+    let front = front_of(alloc, deck, position, mention, &spots)?;
     let shown = shown_behind(alloc, deck.document, position.line, front)?;
     let range = range_named(alloc, deck, caret, mention)?;
     hover(alloc, deck.client.markup, shown, range)
@@ -57,19 +58,19 @@ fn hover_word(alloc: Global, deck: QueriedText<'_>, position: Position) -> Resul
     hover(alloc, deck.client.markup, shown, None)
 }
 
-/// The rows of the name that is mentioned in a line, from 0, with its spots.
-fn rows_named(
+/// What is shown first: the rows of the mention at a position, with its spots, or else what is told of the operation there.
+fn front_of(
     alloc: Global,
-    document: &Document,
-    line: u32,
+    deck: QueriedText<'_>,
+    position: Position,
     mention: Option<&Mention>,
     spots: &[Spot],
 ) -> Result<Vec<u8>, AllocError>
-    ensures { IfOk result (λ rows. rows.items ≡ hovers.rows_named document.now line (lent mention.entry) spots.now) }
+    ensures { IfOk result (λ front. IsFront deck.entry position mention.entry spots.now front.items) }
 {
     match mention {
-        Some(mention) => rows_meant(alloc, document, line, mention.meaning, spots),
-        None => Ok(Vec::new(alloc)),
+        Some(mention) => rows_meant(alloc, deck.document, position.line, mention.meaning, spots),
+        None => manual_rows(alloc, deck, position),
     }
 }
 

@@ -39,6 +39,7 @@
 //! - `machine_above.rt`: the machine for which a line is assembled
 //! - `macro_above.rt`: a macro as it stands above a line
 //! - `macro_places.rt`: the lines that define macros
+//! - `manual_rows.rt`: what is told of an operation at a position
 //! - `mark.rt`: a mark
 //! - `mark_kind.rt`: what a mark marks
 //! - `marked_document.rt`: a document whose marks are kept
@@ -58,6 +59,8 @@
 //! - `openers.rt`: lines that open, part and close others
 //! - `operand_words.rt`: the words of operands
 //! - `operations.rt`: the names of operations
+//! - `outline_row.rt`: a row of an outline, with its line
+//! - `outline_tree.rt`: an outline as a tree
 //! - `outlined.rt`: a row of an outline, as it is told
 //! - `owed.rt`: what is owed to a request
 //! - `parting.rt`: words of a line, none over another
@@ -127,6 +130,7 @@ mod locations;
 mod machine_above;
 mod macro_above;
 mod macro_places;
+mod manual_rows;
 mod mark;
 mod mark_kind;
 mod marked_document;
@@ -146,6 +150,8 @@ mod open_texts;
 mod openers;
 mod operand_words;
 mod operations;
+mod outline_row;
+mod outline_tree;
 mod outlined;
 mod owed;
 mod parting;

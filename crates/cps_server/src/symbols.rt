@@ -1,9 +1,10 @@
 //! The symbols, the macros and the headings of a text.
-ghost use Rattle.std.specs.Prelude.{◌≡◌, ◌++◌, map, IfOk};
+ghost use Rattle.std.specs.Prelude.{◌≡◌, All, map, IfOk};
 ghost use Rattle.std.specs.List.{AllZip};
 ghost use Rattle.serde_json.specs.View.{view};
 ghost use Rattle.cps_list.specs.Symbols as texts;
-ghost use Rattle.cps_server.specs.Outline.{TellsHeading, TellsMacro, TellsSymbol, TellsSymbols};
+ghost use Rattle.cps_server.specs.Outline.{AreNamed, IsFlat, IsLaidOut, TellsHeading, TellsMacro, TellsSymbol, TellsSymbols};
+ghost use Rattle.cps_server.specs.Code.Outlining.{IsPlaced, TellsPlaced, row_json};
 ghost use Rattle.cps_server.specs.Results.{finals_in};
 
 use crate::columns::columns_of;
@@ -12,6 +13,8 @@ use crate::headings::{Heading, headings_in};
 use crate::macro_places::{line_among, macro_places};
 use crate::mentions::{definitions_in, line_of};
 use crate::names::macros_in;
+use crate::outline_row::{OutlineRow, jsons_of};
+use crate::outline_tree::tell_tree;
 use crate::outlined::Outlined;
 use crate::queried_text::QueriedText;
 use cps_list::{Mention, View, push_value, symbol_value};
@@ -26,42 +29,67 @@ const FUNCTION: u32 = 12;
 
 const CONSTANT: u32 = 14;
 
-/// All symbols that lines of a deck define, with their values, in the order of the lines; its macros; and its headings.
+/// All symbols that lines of a deck define, with their values, its macros, and its headings: by their lines, beneath headings, where the editor takes a tree;
+/// else one kind behind another.
 pub fn tell_symbols(alloc: Global, deck: QueriedText<'_>) -> Result<Value, AllocError>
-    ensures { IfOk result (λ json. TellsSymbols deck.entry.document.now (view json)) }
+    ensures { IfOk result (λ json. TellsSymbols deck.entry.client.takes_trees deck.entry.document.now (view json)) }
 {
-    let definitions = definitions_in(alloc, deck.document)?;
-    let symbols = tell_definitions(alloc, deck, &definitions)?;
-    let names = macros_in(alloc, deck.document)?;
-    let macros = tell_macros(alloc, deck, names.as_slice())?;
-    let heads = headings_in(alloc, deck.document)?;
-    let headings = tell_headings(alloc, deck, &heads)?;
-    let told = joined(symbols, macros, headings)?;
+    let rows = named_rows(alloc, deck)?;
+    let told = laid_out(alloc, deck, rows)?;
     Ok(Value::from(told))
 }
 
-/// Lists, one behind another.
-fn joined(
-    symbols: Vec<Value>,
-    macros: Vec<Value>,
-    headings: Vec<Value>,
+/// Rows and headings, as the editor takes them.
+fn laid_out(
+    alloc: Global,
+    deck: QueriedText<'_>,
+    rows: Vec<OutlineRow>,
 ) -> Result<Vec<Value>, AllocError>
-    ensures { IfOk result (λ told. told.items ≡ (symbols.items ++ macros.items) ++ headings.items) }
+    requires { All IsPlaced rows.items }
+    ensures { IfOk result (λ told. IsLaidOut deck.entry.client.takes_trees (map row_json rows.items) (map view told.items)) }
 {
-    let mut told = symbols;
-    let mut macros = macros;
-    told.append(&mut macros)?;
-    let mut headings = headings;
-    told.append(&mut headings)?;
+    let headings = headings_in(alloc, deck.document)?;
+    if deck.client.takes_trees {
+        tell_tree(alloc, deck, rows, &headings)
+    } else {
+        tell_flat(alloc, deck, rows, &headings)
+    }
+}
+
+/// Headings behind rows.
+fn tell_flat(
+    alloc: Global,
+    deck: QueriedText<'_>,
+    rows: Vec<OutlineRow>,
+    headings: &[Heading],
+) -> Result<Vec<Value>, AllocError>
+    ensures { IfOk result (λ told. IsFlat (map row_json rows.items) (map view told.items)) }
+{
+    let mut told = jsons_of(alloc, rows)?;
+    let mut behind = tell_headings(alloc, deck, headings)?;
+    told.append(&mut behind)?;
     Ok(told)
+}
+
+/// The rows of the symbols, and behind them those of the macros.
+fn named_rows(alloc: Global, deck: QueriedText<'_>) -> Result<Vec<OutlineRow>, AllocError>
+    ensures named { IfOk result (λ rows. AreNamed deck.entry.document.now (map row_json rows.items)) }
+    ensures placed { IfOk result (λ rows. All IsPlaced rows.items) }
+{
+    let definitions = definitions_in(alloc, deck.document)?;
+    let mut rows = tell_definitions(alloc, deck, &definitions)?;
+    let names = macros_in(alloc, deck.document)?;
+    let mut macros = tell_macros(alloc, deck, names.as_slice())?;
+    rows.append(&mut macros)?;
+    Ok(rows)
 }
 
 fn tell_definitions(
     alloc: Global,
     deck: QueriedText<'_>,
     definitions: &[Mention],
-) -> Result<Vec<Value>, AllocError>
-    ensures { IfOk result (λ told. AllZip (TellsSymbol (finals_in deck.entry.document.now)) definitions.now (map view told.items)) }
+) -> Result<Vec<OutlineRow>, AllocError>
+    ensures { IfOk result (λ told. AllZip (TellsPlaced (TellsSymbol (finals_in deck.entry.document.now))) definitions.now told.items) }
 {
     let mut told = Vec::new(alloc);
     for definition in definitions {
@@ -75,8 +103,8 @@ fn tell_symbol(
     alloc: Global,
     deck: QueriedText<'_>,
     definition: &Mention,
-) -> Result<Value, AllocError>
-    ensures { IfOk result (λ json. TellsSymbol (finals_in deck.entry.document.now) definition.now (view json)) }
+) -> Result<OutlineRow, AllocError>
+    ensures { IfOk result (TellsPlaced (TellsSymbol (finals_in deck.entry.document.now)) definition.now) }
 {
     let name = definition.name;
     let line = definition.line.saturating_sub(1);
@@ -88,15 +116,16 @@ fn tell_symbol(
         line,
         columns,
     };
-    symbol.tell(alloc, deck, name.text())
+    let json = symbol.tell(alloc, deck, name.text())?;
+    Ok(OutlineRow { line, json })
 }
 
 fn tell_macros(
     alloc: Global,
     deck: QueriedText<'_>,
     names: &[Name],
-) -> Result<Vec<Value>, AllocError>
-    ensures { IfOk result (λ told. AllZip TellsMacro names.now (map view told.items)) }
+) -> Result<Vec<OutlineRow>, AllocError>
+    ensures { IfOk result (λ told. AllZip (TellsPlaced TellsMacro) names.now told.items) }
 {
     let places = macro_places(alloc, deck.document)?;
     let mut told = Vec::new(alloc);
@@ -113,8 +142,8 @@ fn tell_macro(
     deck: QueriedText<'_>,
     name: Name,
     line: u32,
-) -> Result<Value, AllocError>
-    ensures { IfOk result (λ json. TellsMacro name (view json)) }
+) -> Result<OutlineRow, AllocError>
+    ensures { IfOk result (TellsPlaced TellsMacro name) }
 {
     let columns = columns_of(line_of(deck.document, line), name);
     let named = Outlined {
@@ -123,7 +152,8 @@ fn tell_macro(
         line,
         columns,
     };
-    named.tell(alloc, deck, name.text())
+    let json = named.tell(alloc, deck, name.text())?;
+    Ok(OutlineRow { line, json })
 }
 
 fn tell_headings(

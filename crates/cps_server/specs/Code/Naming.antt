@@ -1,5 +1,5 @@
 -- For the code, not part of what a reader believes: what is told of the name at a position of a deck.
-use Rattle.std.specs.Prelude.{Bool, List, Option, option_map}
+use Rattle.std.specs.Prelude.{ℕ, Bool, List, Option, option_map}
 use Rattle.std.specs.Borrow.{Bor}
 use Rattle.serde_json.specs.Data.{Data}
 use Rattle.cps_mention.specs.declared.caret.Caret.{Caret}
@@ -63,7 +63,11 @@ ShowsNamed deck position json = hovers.ShowsNamed deck.encoding deck.client.mark
 abbrev pub lent : Option (Bor Mention) → Option Mention
 lent mention = option_map (λ lent. lent.now) mention
 
--- where the mention that is lent stands around a caret
+-- what is shown first at a position of a deck, of the mention there
+abbrev pub IsFront : QueriedText → Position → Option (Bor Mention) → List Spot → List ℕ → Type 0
+IsFront deck position mention spots front = hovers.IsFront deck.encoding deck.document.now position (lent mention) spots front
+
+-- where the mention stands around a caret
 abbrev pub range_of_mention : QueriedText → Caret → Option (Bor Mention) → Option Data
 range_of_mention deck caret mention = hovers.range_of_mention deck.encoding deck.document.now caret (lent mention)
 

@@ -46,6 +46,10 @@ pub const INITIALIZE_NONE: &str =
 pub const INITIALIZE_WRONG: &str =
     "{\"jsonrpc\":\"2.0\",\"id\":1,\"method\":\"initialize\",\"params\":{\"capabilities\":{\"textDocument\":{\"hover\":{\"contentFormat\":\"markdown\"}}}}}";
 
+/// From an editor that takes an outline as a tree.
+pub const INITIALIZE_TREES: &str =
+    "{\"jsonrpc\":\"2.0\",\"id\":1,\"method\":\"initialize\",\"params\":{\"capabilities\":{\"textDocument\":{\"documentSymbol\":{\"hierarchicalDocumentSymbolSupport\":true}}}}}";
+
 /// The answer to all but the one that offers UTF-8.
 pub const UTF16: &str =
     "{\"id\":1,\"jsonrpc\":\"2.0\",\"result\":{\"capabilities\":{\"codeActionProvider\":{\"codeActionKinds\":[\"quickfix\"]},\"completionProvider\":{},\"definitionProvider\":true,\"documentFormattingProvider\":true,\"documentHighlightProvider\":true,\"documentRangeFormattingProvider\":true,\"documentSymbolProvider\":true,\"foldingRangeProvider\":true,\"hoverProvider\":true,\"inlayHintProvider\":true,\"positionEncoding\":\"utf-16\",\"referencesProvider\":true,\"renameProvider\":{\"prepareProvider\":true},\"semanticTokensProvider\":{\"full\":true,\"legend\":{\"tokenModifiers\":[\"definition\",\"readonly\"],\"tokenTypes\":[\"keyword\",\"macro\",\"parameter\",\"variable\",\"namespace\",\"property\",\"number\",\"string\",\"comment\"]},\"range\":true},\"signatureHelpProvider\":{\"triggerCharacters\":[\" \",\",\"]},\"textDocumentSync\":{\"change\":2,\"openClose\":true}},\"serverInfo\":{\"name\":\"compass\",\"version\":\"0.9.0\"}}}";

@@ -1,4 +1,4 @@
-//! What an editor shows of a place: rows of the name there, the rows of the line, as the listing has them, and the causes of its flags.
+//! What an editor shows of a place: rows of the name there or what is told of the operation, the rows of the line, as the listing has them, and the causes of its flags.
 use super::asking::{
     BY_UTF8, BY_UTF16, Beginning, Inquiry, Question, assert_answers, assert_parts,
 };
@@ -32,11 +32,17 @@ const WORDS: Inquiry = Inquiry {
             r#","position":{"line":3,"character":8}"#,
             r#"{"contents":{"kind":"plaintext","value":"         000100 7160000005                4 START     SX6    COUNT\n"}}"#,
         ),
-        // an operation, which no line mentions as a symbol
+        // an operation: what it does in front
         (
             "hover",
-            r#","position":{"line":3,"character":11}"#,
-            r#"{"contents":{"kind":"plaintext","value":"         000100 7160000005                4 START     SX6    COUNT\n"}}"#,
+            r#","position":{"line":6,"character":11}"#,
+            r#"{"contents":{"kind":"plaintext","value":"An instruction of the central processor: i, j and k are digits of registers,\nK is an expression or a literal, n an expression.\nPS    not read  30 bits  0000000000  Program stop; the next instruction begins a word\n         000101 0000000000                7           PS\n"}}"#,
+        ),
+        // a statement, behind its last character
+        (
+            "hover",
+            r#","position":{"line":7,"character":13}"#,
+            r#"{"contents":{"kind":"plaintext","value":"EQU, =\nOperands: one expression, now\nEffect: gives the location symbol its value\n                00000000000000000005      8 COUNT     EQU    5\n"}}"#,
         ),
         // a register, before the comma
         (
@@ -264,8 +270,47 @@ const BYTES: Inquiry = Inquiry {
     ],
 };
 
-const ROWS: [Inquiry; 8] = [
+/// An operation in small letters of a peripheral processor, a sign that stands for EQU, a letter that is the letter of a flag too, and a comment.
+const OPERATIONS: Inquiry = Inquiry {
+    begins: BY_UTF16,
+    lines: &[
+        "          PERIPH",
+        "          ldn    N",
+        "N         =      5",
+        "E         MACRO",
+        "          ENDM",
+        "          E",
+        "*         LDN",
+    ],
+    told: "[]",
+    questions: &[
+        (
+            "hover",
+            r#","position":{"line":1,"character":10}"#,
+            r#"{"contents":{"kind":"plaintext","value":"An instruction of a peripheral processor: d, m, c and a target are expressions,\nm and c may be literals.\nLDN   d         12 bits  14dd        Load A with d\n         000000 1405                      2           ldn    N\n"}}"#,
+        ),
+        (
+            "hover",
+            r#","position":{"line":2,"character":10}"#,
+            r#"{"contents":{"kind":"plaintext","value":"EQU, =\nOperands: one expression, now\nEffect: gives the location symbol its value\n                00000000000000000005      3 N         =      5\n"}}"#,
+        ),
+        // a call, of which the macro's row is shown
+        (
+            "hover",
+            r#","position":{"line":5,"character":10}"#,
+            r#"{"contents":{"kind":"plaintext","value":"                                          4 E         MACRO\n                                          6           E\n"},"range":{"end":{"character":11,"line":5},"start":{"character":10,"line":5}}}"#,
+        ),
+        (
+            "hover",
+            r#","position":{"line":6,"character":11}"#,
+            r#"{"contents":{"kind":"plaintext","value":"                                          7 *         LDN\n"}}"#,
+        ),
+    ],
+};
+
+const ROWS: [Inquiry; 9] = [
     WORDS,
+    OPERATIONS,
     COMMENT,
     EXPANSION,
     FLAGGED,

@@ -1,5 +1,6 @@
 //! The outline of a text: symbols, macros and headings.
-use super::asking::{BY_UTF8, BY_UTF16, Inquiry, assert_answers};
+use super::asking::{BY_UTF8, BY_UTF16, Beginning, Inquiry, assert_answers};
+use super::conversation::{INITIALIZE_TREES, UTF16};
 use super::decks::{
     LETTERS, NAMES, PAIR, SETTINGS, UNDEFINED, UNDEFINED_TOLD, WIDE, WIDE_UTF8, WIDE_UTF16,
 };
@@ -143,8 +144,63 @@ const BYTES: Inquiry = Inquiry {
     )],
 };
 
-const ROWS: [Inquiry; 10] = [
-    PROGRAM, SMALL, EXPANSION, GENERATED, SET, MACROS, HEADINGS, NOWHERE, UNITS, BYTES,
+/// The first message of an editor that takes a tree.
+const BY_TREES: Beginning = (INITIALIZE_TREES, UTF16);
+
+/// A symbol in front of all headings, a macro and a symbol beneath the first one, and a symbol beneath the last. A section goes up to the next one.
+const TREE: Inquiry = Inquiry {
+    begins: BY_TREES,
+    lines: &[
+        "ZERO      EQU    0",
+        "** TABLES **",
+        "PUT       MACRO  N",
+        "          CON    N",
+        "          ENDM",
+        "TABLE     CON    ZERO",
+        "**        CODE",
+        "START     SA1    TABLE",
+        "          PUT    START",
+    ],
+    told: "[]",
+    questions: &[(
+        "documentSymbol",
+        "",
+        r#"[{"detail":"00000000000000000000","kind":14,"name":"ZERO","range":{"end":{"character":18,"line":0},"start":{"character":0,"line":0}},"selectionRange":{"end":{"character":4,"line":0},"start":{"character":0,"line":0}}},{"children":[{"detail":"macro","kind":12,"name":"PUT","range":{"end":{"character":18,"line":2},"start":{"character":0,"line":2}},"selectionRange":{"end":{"character":3,"line":2},"start":{"character":0,"line":2}}},{"detail":"00000000000000000000","kind":14,"name":"TABLE","range":{"end":{"character":21,"line":5},"start":{"character":0,"line":5}},"selectionRange":{"end":{"character":5,"line":5},"start":{"character":0,"line":5}}}],"detail":"heading","kind":3,"name":"TABLES","range":{"end":{"character":0,"line":6},"start":{"character":0,"line":1}},"selectionRange":{"end":{"character":9,"line":1},"start":{"character":3,"line":1}}},{"children":[{"detail":"00000000000000000001","kind":14,"name":"START","range":{"end":{"character":22,"line":7},"start":{"character":0,"line":7}},"selectionRange":{"end":{"character":5,"line":7},"start":{"character":0,"line":7}}}],"detail":"heading","kind":3,"name":"CODE","range":{"end":{"character":0,"line":9},"start":{"character":0,"line":6}},"selectionRange":{"end":{"character":14,"line":6},"start":{"character":10,"line":6}}}]"#,
+    )],
+};
+
+/// Without headings all stand by their lines; two of one line in the order in which it defines them.
+const UNHEADED: Inquiry = Inquiry {
+    begins: BY_TREES,
+    lines: PAIR,
+    told: "[]",
+    questions: &[(
+        "documentSymbol",
+        "",
+        r#"[{"detail":"macro","kind":12,"name":"PAIR","range":{"end":{"character":18,"line":0},"start":{"character":0,"line":0}},"selectionRange":{"end":{"character":4,"line":0},"start":{"character":0,"line":0}}},{"detail":"00000000000000000000","kind":14,"name":"FIRST","range":{"end":{"character":22,"line":4},"start":{"character":10,"line":4}},"selectionRange":{"end":{"character":22,"line":4},"start":{"character":17,"line":4}}},{"detail":"00000000000000000001","kind":14,"name":"SECOND","range":{"end":{"character":22,"line":4},"start":{"character":10,"line":4}},"selectionRange":{"end":{"character":22,"line":4},"start":{"character":10,"line":4}}}]"#,
+    )],
+};
+
+/// Two headings in lines behind one another, of which the first one has nothing beneath it.
+const BARE: Inquiry = Inquiry {
+    begins: BY_TREES,
+    lines: &[
+        "** ONE",
+        "** TWO",
+        "A         EQU    1",
+        "          CON    A",
+    ],
+    told: "[]",
+    questions: &[(
+        "documentSymbol",
+        "",
+        r#"[{"children":[],"detail":"heading","kind":3,"name":"ONE","range":{"end":{"character":0,"line":1},"start":{"character":0,"line":0}},"selectionRange":{"end":{"character":6,"line":0},"start":{"character":3,"line":0}}},{"children":[{"detail":"00000000000000000001","kind":14,"name":"A","range":{"end":{"character":18,"line":2},"start":{"character":0,"line":2}},"selectionRange":{"end":{"character":1,"line":2},"start":{"character":0,"line":2}}}],"detail":"heading","kind":3,"name":"TWO","range":{"end":{"character":0,"line":4},"start":{"character":0,"line":1}},"selectionRange":{"end":{"character":6,"line":1},"start":{"character":3,"line":1}}}]"#,
+    )],
+};
+
+const ROWS: [Inquiry; 13] = [
+    PROGRAM, SMALL, EXPANSION, GENERATED, SET, MACROS, HEADINGS, NOWHERE, UNITS, BYTES, TREE,
+    UNHEADED, BARE,
 ];
 
 #[test]
