@@ -2,7 +2,7 @@
 ghost use Rattle.std.specs.Prelude.{◌≡◌, ◌++◌, ◌∷◌, List, [], OnOk, OnErr, length, option_and_then, slice_get};
 ghost use Rattle.cps_text.specs.Name.{name_of};
 ghost use Rattle.cps_mention.specs.declared.macro_names.MacroName.{MacroName as MacroNameValue};
-ghost use Rattle.cps_mention.specs.Code.MacroNames.{Indexes, place_in};
+ghost use Rattle.cps_mention.specs.Code.MacroNames.{Indexes, IndexesNext, place_in};
 
 use crate::stretch::Stretch;
 use cps_text::Name;
@@ -90,7 +90,7 @@ fn enter(
     name: MacroName,
     before: usize,
 ) -> Result<(), AllocError>
-    ensures ok { OnOk result ((names : List MacroNameValue) → Indexes names index.old → length names ≡ before → Indexes (names ++ name ∷ []) index.new) }
+    ensures ok { OnOk result (IndexesNext before name index.old index.new) }
     ensures err { OnErr result ((names : List MacroNameValue) → Indexes names index.old → Indexes names index.new) }
 {
     if index.contains_key(&name.name) {

@@ -22,6 +22,10 @@ place_in names name = position_from (λ n. is_one n.name name) 0 names
 abbrev pub Indexes : List MacroName → BTreeMap Name ℕ → Type 0
 Indexes names index = (name : Name) → get name_order index name ≡ place_in names name
 
+-- with a name more, behind so many others
+abbrev pub IndexesNext : ℕ → MacroName → BTreeMap Name ℕ → BTreeMap Name ℕ → Type 0
+IndexesNext before name old new = (names : List MacroName) → Indexes names old → length names ≡ before → Indexes (names ++ name ∷ []) new
+
 abbrev pub lists_of : List (Bor (List Stretch)) → List (List Stretch)
 lists_of arguments = map (λ argument. argument.now) arguments
 
