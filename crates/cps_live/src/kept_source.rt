@@ -184,24 +184,25 @@ impl KeptSource {
         storage_behind(base, &mut self.chunks, self.finals.storage(), cut, traces)
     }
 
-    /// Room for what an edit brings. Gives a list for its chunks.
+    /// Room for what an edit brings beyond what goes. Gives a list for its chunks.
     fn make_room(
         &mut self,
         patch: &FinalsPatch,
         cut: &ChunkSplice,
     ) -> Result<Vec<Chunk>, AllocError>
         requires kept { IsKept self.old }
-        requires few { vec_len self.old.lines + vec_len cut.now.lines < 2 ^ 63 }
+        requires cut { IsSplice self.old.lines.items (lengths_of self.old.chunks.items) cut.now }
         ensures kept { IsKept self.new }
         ensures still { IsStill self.old self.new }
         ensures room { IfOk result (HasRoomFor self.new cut.now) }
         ensures finals { OnOk result (HasRoomToPatch self.new patch.now) }
     {
-        let lines = cut.lines.len();
+        let lines = cut.lines.len().saturating_sub(cut.from - cut.keep);
+        let chunks = cut.lengths.len().saturating_sub(cut.end - cut.start);
         make_room_for(&mut self.lines, lines)?;
         make_room_for(&mut self.traces, lines)?;
         make_room_for(&mut self.outcomes, lines)?;
-        make_room_for(&mut self.chunks, cut.lengths.len())?;
+        make_room_for(&mut self.chunks, chunks)?;
         self.finals.make_room(patch)?;
         Vec::with_capacity(self.alloc, cut.lengths.len())
     }

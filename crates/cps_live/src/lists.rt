@@ -1,5 +1,5 @@
 //! Items in the place of others, without memory, and room for more.
-ghost use Rattle.std.specs.Prelude.{◌≡◌, ◌+◌, ◌≤◌, ◌++◌, [], ◌∷◌, IfOk, OnOk, take, drop, vec_len, vec_capacity};
+ghost use Rattle.std.specs.Prelude.{◌≡◌, ◌+◌, ◌-◌, ◌≤◌, ◌++◌, [], ◌∷◌, IfOk, OnOk, take, drop, vec_len, vec_capacity};
 ghost use Rattle.cps_live.specs.Code.Editing.{put_between};
 
 use cps_edit::Exchange;
@@ -29,14 +29,14 @@ pub fn make_room_for<T: Drop>(items: &mut Vec<T>, count: usize) -> Result<(), Al
 pub fn put_at<T: Drop>(items: &mut Vec<T>, keep: usize, from: usize, news: Vec<T>)
     requires ordered { keep ≤ from }
     requires within { from ≤ vec_len items.old }
-    requires room { vec_len items.old + vec_len news ≤ vec_capacity items.old }
+    requires room { vec_len items.old + vec_len news ≤ vec_capacity items.old + (from - keep) }
     ensures { items.new.items ≡ put_between keep from news.items items.old.items }
 {
     if news.len() == from - keep {
         return replace_at(items, keep, news);
     }
-    insert_at(items, from, news);
     items.drain(keep..from);
+    insert_at(items, keep, news);
 }
 
 /// Puts items in the place of as many after the first `keep`.

@@ -1,5 +1,5 @@
 //! What a pass makes anew.
-ghost use Rattle.std.specs.Prelude.{◌≡◌, ◌+◌, ◌<◌, ◌≤◌, ◌^◌, IfOk, map, vec_len, vec_capacity};
+ghost use Rattle.std.specs.Prelude.{◌≡◌, ◌+◌, ◌-◌, ◌<◌, ◌≤◌, ◌^◌, IfOk, map, vec_len, vec_capacity};
 ghost use Rattle.cps_chunk.specs.Sparse.{AreWithin, renewed};
 ghost use Rattle.cps_live.specs.Code.Editing.{put_between};
 ghost use Rattle.cps_live.specs.Code.Redone as redone;
@@ -21,7 +21,7 @@ impl<T: Drop> News<T> {
         requires ordered { keep ≤ from }
         requires within { from ≤ vec_len items.old }
         requires places { AreWithin 0 (vec_len items.old) self.renewed.items }
-        requires room { vec_len items.old + vec_len self.entered ≤ vec_capacity items.old }
+        requires room { vec_len items.old + vec_len self.entered ≤ vec_capacity items.old + (from - keep) }
         ensures { items.new.items ≡ put_between keep from self.entered.items (renewed 0 self.renewed.items items.old.items) }
     {
         let News { entered, renewed } = self;

@@ -31,5 +31,5 @@ pub record Fits (hashing : Hashing) (cut : ChunkSplice) (cs : List Chunk) (olds 
 
 -- there is room for the chunks of the edit, and a list for them
 pub record HasRoom {Z : Type 0} (cut : ChunkSplice) (cs : Vec Chunk Z) (news : List Trace) (room : Vec Chunk Z) : Type 0 where
-  pub chunks : vec_len cs + length cut.lengths.items ≤ vec_capacity cs
+  pub chunks : vec_len cs + length cut.lengths.items ≤ vec_capacity cs + (cut.end - cut.start)
   pub list : length cut.lengths.items ≤ vec_capacity room

@@ -66,12 +66,12 @@ pub record IsKept (kept : KeptSource) : Type 0 where
   pub lines : AreKept kept
   pub finals : gathered-value.it kept.finals ≡ finals_of (traces_of kept.lines.items)
 
--- there is room for the lines and chunks of an edit, and in a list for the chunks
+-- there is room for the lines and chunks of an edit in the place of those that go, and in a list for the chunks
 pub record HasRoomFor {Z : Type 0} (kept : KeptSource) (cut : ChunkSplice) (news : Vec Chunk Z) : Type 0 where
-  pub lines : vec_len kept.lines + vec_len cut.lines ≤ vec_capacity kept.lines
-  pub traces : vec_len kept.traces + vec_len cut.lines ≤ vec_capacity kept.traces
-  pub outcomes : vec_len kept.outcomes + vec_len cut.lines ≤ vec_capacity kept.outcomes
-  pub chunks : vec_len kept.chunks + vec_len cut.lengths ≤ vec_capacity kept.chunks
+  pub lines : vec_len kept.lines + vec_len cut.lines ≤ vec_capacity kept.lines + (cut.from - cut.keep)
+  pub traces : vec_len kept.traces + vec_len cut.lines ≤ vec_capacity kept.traces + (cut.from - cut.keep)
+  pub outcomes : vec_len kept.outcomes + vec_len cut.lines ≤ vec_capacity kept.outcomes + (cut.from - cut.keep)
+  pub chunks : vec_len kept.chunks + vec_len cut.lengths ≤ vec_capacity kept.chunks + (cut.end - cut.start)
   pub empty : vec_len news ≡ 0
   pub list : vec_len cut.lengths ≤ vec_capacity news
 
