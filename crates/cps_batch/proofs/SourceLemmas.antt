@@ -11,18 +11,6 @@ use Rattle.cps_final.specs.Outcome.{outcome_of}
 use Rattle.cps_edit.specs.Assembly.{state_after, traces_of, outcomes_of, outcomes_under}
 use Rattle.cps_edit.proofs.SpliceLemmas.{traces_from-append, length-traces_from, puts-state}
 
--- the trace of the line after those that were gathered
-pub step-next : (finals : Finals) (before : List (List ℕ)) (line : List ℕ) (trace : Trace) (state : State) → Gathers finals (traces_of before) → state ≡ finals.state
-    → trace ≡ trace_of line state → traces_of (before ++ line ∷ []) ≡ traces_of before ++ trace ∷ []
-step-next finals before line trace state gathers same stepped =
-    let now : trace ≡ trace_of line (state_after first_state before) =
-    stepped ∙ ap (trace_of line) (same ∙ ap (λ (f : Finals). f.state) gathers ∙ puts-state first_state before) in
-    traces_from-append first_state before (line ∷ []) ∙ ap (λ (t : Trace). traces_of before ++ t ∷ []) (sym now)
-
--- the first lines, and the next
-pub front-next : (lines : List (List ℕ)) (i : ℕ) (line : List ℕ) → i < length lines → line ≡ get_or lines i line → take i lines ++ line ∷ [] ≡ take (i + 1) lines
-front-next lines i line within is = ap (λ l. take i lines ++ l ∷ []) is ∙ sym (take_more lines i line within)
-
 pub outcomes-more : (finals : Finals) (traces : List Trace) (trace : Trace)
     → outcomes_under finals (traces ++ trace ∷ []) ≡ outcomes_under finals traces ++ outcome_of (final_value finals) trace ∷ []
 outcomes-more finals [] trace = refl

@@ -2,7 +2,6 @@
 //!
 //! - `assembling.rt`: batch assembly as a whole
 //! - `fault.rt`: why a source is not assembled, or its texts not written
-//! - `kept_pass_one.rt`: pass one of all lines
 //! - `passes.rt`: both passes over the lines
 //! - `source.rt`: the source
 //! - `source_words.rt`: the words of a source, without its texts
@@ -10,14 +9,12 @@
 
 mod assembling;
 mod fault;
-mod kept_pass_one;
 mod passes;
 mod source;
 mod source_words;
 
 pub use assembling::batch;
 pub use fault::BatchFault;
-pub use kept_pass_one::KeptPassOne;
 pub use passes::make_words;
 pub use source::Source;
 pub use source_words::SourceWords;

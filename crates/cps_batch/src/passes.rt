@@ -6,7 +6,8 @@ ghost use Rattle.cps_list.specs.Texts.{text_of};
 ghost use Rattle.cps_edit.specs.Assembly.{assembly_of, outcomes_under, traces_of};
 ghost use Rattle.cps_edit.specs.Flagged.{flagged_lines};
 ghost use Rattle.cps_batch.specs.Code.Words.{AreWordsOf};
-ghost use Rattle.cps_batch.specs.Code.Passes.{AreGathered, AreKeptParts, AreParts, AreStatements, IsNext, IsPassed, IsShown, KeepsOn, PassesOn, ShowsOn, noted, statements_of};
+ghost use Rattle.cps_batch.specs.Code.Passes.{AreKeptParts, AreParts, AreStatements, IsNext, IsPassed, IsShown, KeepsOn, PassesOn, ShowsOn, noted, statements_of};
+ghost use Rattle.cps_edit.specs.Code.PassOne.{AreGathered};
 
 use crate::source_words::SourceWords;
 use cps_final::{Finals, Gather, Gathered, LineSymbols, Output};

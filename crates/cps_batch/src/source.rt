@@ -3,11 +3,10 @@ ghost use Rattle.std.specs.Prelude.{◌≡◌, ◌≤◌, length, IfOk};
 ghost use Rattle.cps_edit.specs.Assembly.{traces_of};
 ghost use Rattle.cps_edit.specs.Flagged.{flagged_lines as flagged_in};
 
-use crate::kept_pass_one::KeptPassOne;
-use cps_edit::flagged_lines;
+use cps_edit::{PassOne, flagged_lines};
 use cps_final::{Finals, Gather, Gathered, Outcome};
 use cps_list::View;
-use cps_state::{Hashing, Trace};
+use cps_state::{Hashing, Trace, Work};
 use cps_text::Line;
 use cps_text::limits::MOST_LINES;
 use std::alloc::{AllocError, Global};
@@ -98,8 +97,9 @@ impl Source {
         ensures source { IfOk result (λ made. made.0 ≡ lines.items) }
         ensures traces { IfOk result (λ made. made.1.items ≡ traces_of lines.items) }
     {
-        let one = KeptPassOne::of(alloc, hashing, &lines)?;
-        let outcomes = one.make_outcomes(alloc)?;
+        let mut work = Work::new();
+        let one = PassOne::of(alloc, hashing, &lines, &mut work)?;
+        let outcomes = one.make_outcomes(alloc, &mut work)?;
         let (traces, gather) = one.into_parts();
         let source = Source {
             lines,

@@ -5,9 +5,9 @@ ghost use Rattle.cps_check.specs.Code.Adding.{TellsSource, TellsBytes};
 use crate::check_options::CheckOptions;
 use crate::line_telling::LineTelling;
 use crate::told_line::push_excess;
-use cps_batch::KeptPassOne;
+use cps_edit::PassOne;
 use cps_input::{cut_lines, make_cards};
-use cps_state::Hashing;
+use cps_state::{Hashing, Work};
 use cps_text::limits::MOST_LINES;
 use std::alloc::{AllocError, Global};
 
@@ -44,7 +44,7 @@ fn tell_source(
         TellsSource options.entry.errors_only options.entry.name.now (map (λ line. line.now) lines.now) telling.text.items telling.is_wrong) }
 {
     let cards = make_cards(alloc, lines)?;
-    let one = KeptPassOne::of(alloc, hashing, &cards)?;
+    let one = PassOne::of(alloc, hashing, &cards, &mut Work::new())?;
     let telling = LineTelling {
         alloc,
         name: options.name,

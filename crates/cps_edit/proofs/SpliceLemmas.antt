@@ -6,8 +6,7 @@ use Rattle.cps_state.specs.Keys.{State, first_state, with_put, overwritten}
 use Rattle.cps_state.specs.Course.{Trace}
 use Rattle.cps_pass.specs.Expansion.{trace_of}
 use Rattle.cps_final.specs.Layout.{puts_of}
-use Rattle.cps_final.specs.Finals.{Finals, finals_of}
-use Rattle.cps_edit.specs.Passes.{after, state_after, traces_from, traces_of}
+use Rattle.cps_edit.specs.Passes.{after, state_after, traces_from}
 use Rattle.cps_edit.specs.Splice.{splice_at, spliced}
 use Rattle.cps_edit.specs.Disturbed.{Placed, kept, all_kept, fresh, is_disturbed, disturbed_from, ones_of}
 use Rattle.cps_edit.specs.Renewed.{AllWereMeant}
@@ -100,7 +99,3 @@ disturbed-is ls new keep from =
     disturbed_from-prefix keep first_state ls (map fresh new ++ drop from (all_kept ls))
     ∙ disturbed_from-new g new (drop from (all_kept ls))
     ∙ ap (λ ps. length new + disturbed_from (state_after g new) ps) (kept-drop from ls (traces_from first_state ls))
-
--- the state that was gathered
-pub gathered-state : (front : Finals) (ls : List (List ℕ)) → front ≡ finals_of (traces_of ls) → front.state ≡ state_after first_state ls
-gathered-state front ls is = ap (λ (f : Finals). f.state) is ∙ puts-state first_state ls

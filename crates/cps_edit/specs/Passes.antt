@@ -1,10 +1,9 @@
 -- Pass one of a source: a fold over its lines. The state before each line, and what the line asks, puts and makes there.
 -- From the manual's section on the two passes.
-use Rattle.std.specs.Prelude.{ℕ, List, [], ◌∷◌, ◌++◌, map}
+use Rattle.std.specs.Prelude.{ℕ, List, [], ◌∷◌, map}
 use Rattle.cps_state.specs.Keys.{State, first_state, overwritten}
 use Rattle.cps_state.specs.Course.{Trace}
 use Rattle.cps_pass.specs.Expansion.{trace_of}
-use Rattle.cps_final.specs.Finals.{Finals, Gathers}
 use Rattle.cps_final.specs.Outcome.{Resolved, Outcome, outcome_of}
 
 -- the state after a line
@@ -27,7 +26,3 @@ traces_of lines = traces_from first_state lines
 -- what pass two makes of lines that did this in pass one
 abbrev pub outcomes_by : Resolved → List Trace → List Outcome
 outcomes_by finals traces = map (outcome_of finals) traces
-
--- for the code, not part of what a reader believes: what was gathered of some lines, and then of more
-abbrev pub GathersMore : Finals → Finals → List Trace → Type 0
-GathersMore old new traces = (done : List Trace) → Gathers old done → Gathers new (done ++ traces)

@@ -3,14 +3,17 @@
 //! - `exchange.rt`: an exchange, the one that undoes it, and a list of which two runs change places
 //! - `flagged.rt`: how many lines are flagged
 //! - `laws.rt`: laws of exchanged lists
-//! - `pass_one.rt`: pass one so far, and how it goes over the next lines
+//! - `pass_one.rt`: pass one of all lines of a source, and what stands after the last
+//! - `pass_two.rt`: pass two of lines
 #![tactic(auto)]
 
 mod exchange;
 mod flagged;
 pub mod laws;
 mod pass_one;
+mod pass_two;
 
 pub use exchange::Exchange;
 pub use flagged::flagged_lines;
 pub use pass_one::PassOne;
+pub use pass_two::step_two_all;

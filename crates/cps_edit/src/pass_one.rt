@@ -1,96 +1,131 @@
-//! Pass one of the lines of a source, one after another.
-ghost use Rattle.std.specs.Prelude.{◌≡◌, [], ◌∷◌, IfOk, OnErr, OnOk, length};
+//! Pass one of all lines of a source.
+ghost use Rattle.std.specs.Prelude.{◌≡◌, [], IfOk, OnOk, length};
 ghost use Rattle.cps_state.specs.Work.{raised};
 ghost use Rattle.cps_state.specs.declared.work.Tally.TheVariants.{Ones};
-ghost use Rattle.cps_final.specs.Finals.{Gathers};
-ghost use Rattle.cps_edit.specs.Code.PassOne.{GoesOver, gathered_in};
+ghost use Rattle.cps_final.specs.Finals.{Gathers, finals_of};
+ghost use Rattle.cps_edit.specs.Assembly.{outcomes_under, traces_of};
+ghost use Rattle.cps_edit.specs.Code.PassOne.{AreGathered, GathersLine};
 ghost use Rattle.cps_edit.specs.Compares.{Steps};
 
-use cps_final::{Finals, Gather, Gathered};
+use crate::pass_two::step_two_all;
+use cps_final::{Finals, Gather, Gathered, Outcome};
 use cps_pass::step_over;
 use cps_state::{Hashing, Scratch, Trace, Work};
 use cps_text::Line;
 use std::alloc::{AllocError, Global};
+use std::marker::Model;
 
-/// What pass one has gathered of the lines so far.
+/// What each line of a source does in pass one, and what stands after the last.
 pub struct PassOne {
-    alloc: Global,
+    traces: Vec<Trace>,
     gather: Gather,
-    /// The lists that the next line uses.
-    scratch: Scratch,
 }
 
 // Written out: a derived drop is proved anew, with all that it goes through, at each place where a value is dropped.
 impl Drop for PassOne {
     fn drop(self) {
-        let PassOne {
-            alloc: _,
-            gather,
-            scratch,
-        } = self;
+        let PassOne { traces, gather } = self;
+        drop(traces);
         drop(gather);
-        drop(scratch);
     }
 }
 
+impl Model for PassOne {
+    ghost use Rattle.std.specs.Prelude.{List};
+    ghost use Rattle.cps_state.specs.Course.{Trace};
+    ghost use Rattle.cps_final.specs.Finals.{Gathers};
+
+    ghost Value = { List Trace };
+
+    ghost view = { λ one. one.traces.items };
+
+    ghost invariant = { λ one. Gathers (⟦<Finals as Gathered>⟧.gathered one.gather) one.traces.items };
+}
+
 impl PassOne {
-    /// In front of the first line. Takes no memory yet.
-    pub fn new(alloc: Global, hashing: Hashing) -> PassOne
-        ensures { Gathers (gathered_in result) [] }
-    {
-        PassOne {
-            alloc,
-            gather: Gather::new(alloc, hashing),
-            scratch: Scratch::new(alloc),
-        }
-    }
-
-    /// What stands after the lines so far, and nothing else. Takes no memory.
-    pub fn finish(self) -> Finals
-        ensures { ⟦<Finals as Gathered>⟧.gathered result ≡ gathered_in self }
-    {
-        let PassOne {
-            alloc: _,
-            gather,
-            scratch,
-        } = self;
-        drop(scratch);
-        gather
-    }
-
-    /// What the next line does. It is one step of pass one. Where there is no memory, nothing changes.
-    fn step(&mut self, line: &Line, work: &mut Work) -> Result<Trace, AllocError>
-        ensures ok { IfOk result (λ trace. GoesOver self.old self.new (line.now ∷ []) (trace ∷ [])) }
-        ensures err { OnErr result (gathered_in self.new ≡ gathered_in self.old) }
-        ensures step { work.new ≡ raised Ones work.old }
-    {
-        let trace = step_over(
-            self.alloc,
-            work,
-            &mut self.scratch,
-            line,
-            self.gather.state(),
-        )?;
-        match self.gather.add(&trace) {
-            Ok(()) => Ok(trace),
-            Err(refused) => {
-                drop(trace);
-                Err(refused)
-            }
-        }
-    }
-
-    /// What the next lines do.
-    pub fn step_all(&mut self, lines: &[Line], work: &mut Work) -> Result<Vec<Trace>, AllocError>
-        ensures ok { IfOk result (λ traces. GoesOver self.old self.new lines.now traces.items) }
+    /// Of these lines. Each is one step of pass one.
+    pub fn of(
+        alloc: Global,
+        hashing: Hashing,
+        lines: &[Line],
+        work: &mut Work,
+    ) -> Result<PassOne, AllocError>
+        ensures one { IfOk result (λ one. one ≡ traces_of lines.now) }
         ensures steps { Steps result work.old work.new (length lines.now) 0 }
         ensures looked { work.new.looked ≡ work.old.looked }
     {
-        let mut traces = Vec::with_capacity(self.alloc, lines.len())?;
-        for line in lines {
-            let trace = self.step(line, work)?;
-            traces.push(trace)?;
-        }
-        Ok(traces)
+        let mut gather = Gather::new(alloc, hashing);
+        let traces = step_all(alloc, &mut gather, lines, work)?;
+        Ok(PassOne { traces, gather })
     }
+
+    /// What each line does.
+    pub fn traces(&self) -> &[Trace]
+        ensures { result.now ≡ self.now }
+    {
+        self.traces.as_slice()
+    }
+
+    /// What stands after the last line.
+    pub fn finals(&self) -> &Finals
+        ensures { ⟦<Finals as Gathered>⟧.gathered result.now ≡ finals_of self.now }
+    {
+        &self.gather
+    }
+
+    /// What pass two makes of each line, under the final values. Each is one step of pass two.
+    pub fn make_outcomes(&self, alloc: Global, work: &mut Work) -> Result<Vec<Outcome>, AllocError>
+        ensures outcomes { IfOk result (λ outcomes. outcomes.items ≡ outcomes_under (finals_of self.now) self.now) }
+        ensures steps { Steps result work.old work.new 0 (length self.now) }
+        ensures looked { work.new.looked ≡ work.old.looked }
+    {
+        step_two_all(alloc, self.traces(), self.finals(), work)
+    }
+
+    /// What each line does, and what was gathered of the lines.
+    pub fn into_parts(self) -> (Vec<Trace>, Gather)
+        ensures traces { result.0.items ≡ self }
+        ensures gather { Gathers (⟦<Finals as Gathered>⟧.gathered result.1) self }
+    {
+        let PassOne { traces, gather } = self;
+        (traces, gather)
+    }
+}
+
+/// What each line does, gathered one after another.
+fn step_all(
+    alloc: Global,
+    gather: &mut Gather,
+    lines: &[Line],
+    work: &mut Work,
+) -> Result<Vec<Trace>, AllocError>
+    requires { AreGathered [] gather.old }
+    ensures traces { IfOk result (λ traces. traces.items ≡ traces_of lines.now) }
+    ensures gathered { OnOk result (AreGathered lines.now gather.new) }
+    ensures steps { Steps result work.old work.new (length lines.now) 0 }
+    ensures looked { work.new.looked ≡ work.old.looked }
+{
+    let mut traces = Vec::with_capacity(alloc, lines.len())?;
+    let mut scratch = Scratch::new(alloc);
+    for line in lines {
+        let trace = step_next(alloc, &mut scratch, gather, line, work)?;
+        traces.push(trace)?;
+    }
+    Ok(traces)
+}
+
+/// Pass one of the line after those that were gathered.
+fn step_next(
+    alloc: Global,
+    scratch: &mut Scratch,
+    gather: &mut Gather,
+    line: &Line,
+    work: &mut Work,
+) -> Result<Trace, AllocError>
+    ensures trace { IfOk result (λ trace. GathersLine line.now trace gather.old gather.new) }
+    ensures step { work.new ≡ raised Ones work.old }
+{
+    let trace = step_over(alloc, work, scratch, line, gather.state())?;
+    gather.add(&trace)?;
+    Ok(trace)
 }

@@ -9,7 +9,6 @@ ghost use Rattle.cps_live.specs.Entering.{full_chunks};
 use crate::chunk_list::chunks_of;
 use crate::kept_source::KeptSource;
 use crate::names_read::NamesRead;
-use crate::second_pass::step_two_all;
 use cps_chunk::FULL;
 use cps_edit::PassOne;
 use cps_state::{Hashing, Scratch, State, Work};
@@ -31,10 +30,9 @@ pub fn kept_of(
 {
     let lengths = full_lengths(alloc, lines.len())?;
     let room = Vec::with_capacity(alloc, lengths.len())?;
-    let mut one = PassOne::new(alloc, hashing);
-    let traces = one.step_all(&lines, work)?;
-    let finals = one.finish();
-    let outcomes = step_two_all(alloc, &traces, &finals, work)?;
+    let one = PassOne::of(alloc, hashing, &lines, work)?;
+    let outcomes = one.make_outcomes(alloc, work)?;
+    let (traces, finals) = one.into_parts();
     let mut read = NamesRead::new(alloc, hashing);
     read.add_all(&outcomes)?;
     let chunks = chunks_of(hashing, &lengths, &traces, room);

@@ -4,7 +4,6 @@ ghost use Rattle.cps_state.specs.Course.{Trace as Did};
 ghost use Rattle.cps_final.specs.Resolving.{resolved};
 ghost use Rattle.cps_final.specs.NamedFinals.{names_in, all_pass};
 ghost use Rattle.cps_edit.specs.Compares.{ComparesUpTo, Steps};
-ghost use Rattle.cps_edit.specs.Passes.{outcomes_by};
 ghost use Rattle.cps_chunk.specs.Code.Chunk.{AreChunksOf, IsChunkOf, lengths_of};
 ghost use Rattle.cps_chunk.specs.Code.Looks.{items_before, items_from};
 ghost use Rattle.cps_chunk.specs.Sparse.{AreWithin};
@@ -16,7 +15,7 @@ ghost use Rattle.cps_live.specs.Code.StillChunks.{AreStillChunks, CutsAround, Is
 use crate::differences::Differences;
 use crate::names_read::NamesRead;
 use cps_chunk::{Baseline, Chunk, ChunkSplice, Redo, SparseItem, part};
-use cps_final::{Ends, Finals, Outcome, step_two};
+use cps_final::{Ends, Outcome};
 use cps_state::{Trace, Work};
 use std::alloc::{AllocError, Global};
 
@@ -225,25 +224,6 @@ struct ComparedSpan {
     from: usize,
     to: usize,
     none_differs: bool,
-}
-
-/// What pass two makes of new lines.
-pub fn step_two_all(
-    alloc: Global,
-    traces: &[Trace],
-    finals: &Finals,
-    work: &mut Work,
-) -> Result<Vec<Outcome>, AllocError>
-    ensures outcomes { IfOk result (λ made. made.items ≡ outcomes_by (resolved finals.now) traces.now) }
-    ensures steps { Steps result work.old work.new 0 (length traces.now) }
-    ensures looked { work.new.looked ≡ work.old.looked }
-{
-    let mut all = Vec::with_capacity(alloc, traces.len())?;
-    for trace in traces {
-        let made = step_two(alloc, work, trace, finals)?;
-        all.push(made)?;
-    }
-    Ok(all)
 }
 
 /// What is new in front of a place, and what is new from it on.

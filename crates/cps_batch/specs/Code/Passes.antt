@@ -5,9 +5,8 @@ use Rattle.cps_state.specs.declared.item.Item.{Item}
 use Rattle.cps_state.specs.Course.{Trace}
 use Rattle.cps_state.specs.Code.Scratch.{Scratch, StandsOn, statements_on}
 use Rattle.cps_input.specs.Code.Parts.{RisesTo, parts_at}
-use Rattle.cps_final.specs.declared.finals.Finals.{Finals as Gather}
 use Rattle.cps_final.specs.contracts.finals.FinalsGathered.TheImpl as finals
-use Rattle.cps_final.specs.Finals.{Finals, Gathers}
+use Rattle.cps_final.specs.Finals.{Finals}
 use Rattle.cps_list.specs.Code.Making.{IsPrintoutOf, shown, shows_symbols}
 use Rattle.cps_list.specs.Symbols.{mentions_from, mentions_on}
 use Rattle.cps_list.specs.declared.mention.Mention.{Mention}
@@ -15,6 +14,7 @@ use Rattle.cps_final.specs.LineNames.{names_defined, names_read}
 use Rattle.cps_batch.specs.declared.passes.BatchPassOne.{BatchPassOne}
 use Rattle.cps_batch.specs.declared.passes.PassTwo.{PassTwo}
 use Rattle.cps_edit.specs.Assembly.{traces_of, outcomes_under}
+use Rattle.cps_edit.specs.Code.PassOne.{AreGathered, IsTrace}
 
 -- the statements of each line
 abbrev pub statements_of : List Trace → List (List Item)
@@ -32,18 +32,6 @@ AreKeptParts ends items parts = IfSome ends (λ ends. AreParts ends.items items 
 -- behind the parts that were kept come the statements of the line on a scratch
 abbrev pub KeepsOn : {Z : Type 0} → Option (Vec ℕ Z) → Option (Vec ℕ Z) → Scratch → Scratch → Type 0
 KeepsOn ends ends' old new = (parts : List (List Item)) → AreKeptParts ends old.before parts → AreKeptParts ends' (statements_on new) (parts ++ old.line.items ∷ [])
-
--- these lines were gathered
-abbrev pub AreGathered : List (List ℕ) → Gather → Type 0
-AreGathered lines gathered = Gathers (finals.gathered-value.it gathered) (traces_of lines)
-
--- this is what a line does behind these lines
-abbrev pub IsTrace : List (List ℕ) → List ℕ → Trace → Type 0
-IsTrace before line trace = traces_of (before ++ line ∷ []) ≡ traces_of before ++ trace ∷ []
-
--- behind any lines that were gathered a line does this, and is gathered
-abbrev pub GathersLine : List ℕ → Trace → Gather → Gather → Type 0
-GathersLine line trace old new = (before : List (List ℕ)) → AreGathered before old → IsTrace before line trace × AreGathered (before ++ line ∷ []) new
 
 -- these are the statements of a line behind these lines
 abbrev pub AreStatements : List (List ℕ) → List ℕ → List Item → Type 0

@@ -1,17 +1,19 @@
--- For the code that goes over lines, not part of what a reader believes.
-use Rattle.std.specs.Prelude.{◌≡◌, ℕ, List}
+-- For the code that goes over lines, not part of what a reader believes: what was gathered of lines, and of one line more.
+use Rattle.std.specs.Prelude.{◌≡◌, ℕ, List, [], ◌∷◌, ◌++◌}
 use Rattle.cps_state.specs.Course.{Trace}
-use Rattle.cps_final.specs.Finals.{Finals}
+use Rattle.cps_final.specs.Finals.{Gathers}
+use Rattle.cps_final.specs.declared.finals.Finals.{Finals as Gather}
 use Rattle.cps_final.specs.contracts.finals.FinalsGathered.TheImpl.{gathered-value}
-use Rattle.cps_edit.specs.declared.pass_one.PassOne.{PassOne}
-use Rattle.cps_edit.specs.Passes.{state_after, traces_from, GathersMore}
+use Rattle.cps_edit.specs.Passes.{traces_of}
 
--- what was gathered of the lines so far
-abbrev pub gathered_in : PassOne → Finals
-gathered_in one = gathered-value.it one.gather
+-- these lines were gathered
+abbrev pub AreGathered : List (List ℕ) → Gather → Type 0
+AreGathered lines gathered = Gathers (gathered-value.it gathered) (traces_of lines)
 
--- pass one goes over lines behind those, and this is what they do
-pub record GoesOver (old new : PassOne) (lines : List (List ℕ)) (traces : List Trace) : Type 0 where
-  pub did : traces ≡ traces_from (gathered_in old).state lines
-  pub gathers : GathersMore (gathered_in old) (gathered_in new) traces
-  pub state : (gathered_in new).state ≡ state_after (gathered_in old).state lines
+-- this is what a line does behind these lines
+abbrev pub IsTrace : List (List ℕ) → List ℕ → Trace → Type 0
+IsTrace before line trace = traces_of (before ++ line ∷ []) ≡ traces_of before ++ trace ∷ []
+
+-- behind any lines that were gathered a line does this, and is gathered
+abbrev pub GathersLine : List ℕ → Trace → Gather → Gather → Type 0
+GathersLine line trace old new = (before : List (List ℕ)) → AreGathered before old → IsTrace before line trace × AreGathered (before ++ line ∷ []) new

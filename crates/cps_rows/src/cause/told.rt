@@ -1,7 +1,7 @@
 //! What is told of the lines of a source.
-use cps_batch::KeptPassOne;
 use cps_cause::{Diagnostic, LinesAbove, explain, explain_end, line_of_opener};
-use cps_state::Hashing;
+use cps_edit::PassOne;
+use cps_state::{Hashing, Work};
 use cps_text::Line;
 use itoa::Buffer;
 use std::alloc::{AllocError, Global};
@@ -26,7 +26,7 @@ pub enum CauseDetail {
 /// `end E` and the number of the line that opened it.
 pub fn told_of(alloc: Global, detail: CauseDetail, texts: &[&str]) -> Option<Vec<u8>> {
     let lines = lines_of(alloc, texts)?;
-    let told = match KeptPassOne::of(alloc, Hashing::by(1), &lines) {
+    let told = match PassOne::of(alloc, Hashing::by(1), &lines, &mut Work::new()) {
         Ok(one) => told_by(alloc, detail, &lines, &one).ok(),
         Err(_) => None,
     };
@@ -47,7 +47,7 @@ fn told_by(
     alloc: Global,
     detail: CauseDetail,
     lines: &[Line],
-    one: &KeptPassOne,
+    one: &PassOne,
 ) -> Result<Vec<u8>, AllocError> {
     let mut text = Vec::new(alloc);
     for (at, trace) in one.traces().iter().enumerate() {
@@ -107,7 +107,7 @@ fn push_number(text: &mut Vec<u8>, number: usize) -> Result<(), AllocError> {
     text.extend_from_slice(Buffer::new().format(number).as_bytes())
 }
 
-fn tell_end(text: &mut Vec<u8>, one: &KeptPassOne) -> Result<(), AllocError> {
+fn tell_end(text: &mut Vec<u8>, one: &PassOne) -> Result<(), AllocError> {
     if explain_end(one.finals())?.is_none() {
         return Ok(());
     }

@@ -16,14 +16,14 @@ tell_lines-requires-clause-cards c = c.deref-2.ensures.value ∙ c.in_ok-cards.e
 
 pub tell_lines-requires-clause-traces : goal.tell_lines-requires-clause-traces
 tell_lines-requires-clause-traces c =
-    c.traces.ensures ∙ c.in_ok-one.ensures ∙ ap traces_of (c.deref.ensures.value ∙ sym c.deref-2.ensures.value)
+    c.traces.ensures ∙ c.in_ok-one.ensures.one ∙ ap traces_of (c.deref.ensures.value ∙ sym c.deref-2.ensures.value)
 
 pub tell_end-requires-clause-few : goal.tell_end-requires-clause-few
 tell_end-requires-clause-few c = subst (λ (cards : List (List ℕ)). length cards ≤ MOST_LINES) (sym (c.deref-3.ensures.value ∙ c.in_ok-cards.ensures)) (few-cards (texts_of c.args.lines.now))
 
 pub tell_end-requires-clause-traces : goal.tell_end-requires-clause-traces
 tell_end-requires-clause-traces c =
-    c.traces-2.ensures ∙ c.in_ok-one.ensures ∙ ap traces_of (c.deref.ensures.value ∙ sym c.deref-3.ensures.value)
+    c.traces-2.ensures ∙ c.in_ok-one.ensures.one ∙ ap traces_of (c.deref.ensures.value ∙ sym c.deref-3.ensures.value)
 
 pub tell_end-requires-clause-finals : goal.tell_end-requires-clause-finals
 tell_end-requires-clause-finals c = c.finals.ensures ∙ ap finals_of (sym c.traces-2.ensures)
@@ -34,7 +34,7 @@ returns c =
     c.in_ok-is_wrong_within.is_wrong_within c.in_ok-is_open.is_open
     c.new-text.result.items c.tell_lines.new.text.items c.push_excess.new.text.items c.tell_end.new.text.items
     c.in_ok-cards.ensures
-    (c.traces.ensures ∙ c.in_ok-one.ensures ∙ ap traces_of c.deref.ensures.value)
+    (c.traces.ensures ∙ c.in_ok-one.ensures.one ∙ ap traces_of c.deref.ensures.value)
     (c.finals.ensures ∙ ap finals_of (sym c.traces.ensures))
     (sym (length-map c.args.lines.now (λ (line : Bor (List ℕ)). line.now)))
     c.new-text.ensures.items

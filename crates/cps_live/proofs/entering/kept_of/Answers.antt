@@ -4,14 +4,12 @@ use Rattle.std.proofs.lemmas.List.{take_all}
 use Rattle.cps_state.specs.Keys.{first_state}
 use Rattle.cps_state.specs.Course.{Trace}
 use Rattle.cps_final.specs.contracts.finals.FinalsGathered.TheImpl.{gathered-value as gathered-finals}
-use Rattle.cps_final.specs.Finals.{finals_of, final_value}
-use Rattle.cps_final.specs.Resolving.{resolved}
+use Rattle.cps_final.specs.Finals.{finals_of}
 use Rattle.cps_chunk.specs.Division.{AreChunks}
 use Rattle.cps_final.specs.Outcome.{Outcome}
-use Rattle.cps_edit.specs.Passes.{traces_from, traces_of, outcomes_by}
-use Rattle.cps_edit.specs.Disturbed.{finals_in}
-use Rattle.cps_edit.specs.Code.PassOne.{gathered_in}
-use Rattle.cps_edit.proofs.SpliceLemmas.{gathered-state, length-traces_from}
+use Rattle.cps_edit.specs.Passes.{traces_of}
+use Rattle.cps_edit.specs.Assembly.{outcomes_under}
+use Rattle.cps_edit.proofs.SpliceLemmas.{length-traces_from}
 use Rattle.cps_chunk.specs.Code.Chunk.{AreChunksOf}
 use Rattle.cps_live.specs.Code.NamesRead.{HasRead}
 use Rattle.cps_live.specs.Entering.{full_chunks}
@@ -22,35 +20,31 @@ pub chunks_of-chunks-requires-clause-within : goal.chunks_of-chunks-requires-cla
 chunks_of-chunks-requires-clause-within c =
     let lines = c.args.lines.items in
     let count : c.len.result ≡ length lines = omega (arith, c.len.ensures, c.args.lines.ok.0) in
-    let sizes = c.deref-4.ensures.value ∙ c.in_ok-lengths.ensures ∙ ap full_chunks count in
-    let all = ap length (c.deref-5.ensures.value ∙ c.in_ok-traces.ensures.ok.did) ∙ length-traces_from _ _ ∙ ap length c.deref.ensures.value in
+    let sizes = c.deref-3.ensures.value ∙ c.in_ok-lengths.ensures ∙ ap full_chunks count in
+    let all = ap length (c.deref-4.ensures.value ∙ c.into_parts-traces.ensures.traces ∙ c.in_ok-one.ensures.one) ∙ length-traces_from _ _ ∙ ap length c.deref.ensures.value in
     omega (arith, ap sum sizes, (divides (length lines)).total, all)
 
 pub returns-clause-kept : goal.returns-clause-kept
 returns-clause-kept c =
     let lines = c.args.lines.items in
-    let start = gathered_in c.new-one.result in
-    let begun : start.state ≡ first_state = gathered-state start [] c.new-one.ensures in
-    let l = c.deref.ensures.value in
-    let did : c.in_ok-traces.traces.items ≡ traces_of lines = c.in_ok-traces.ensures.ok.did ∙ (λ i. traces_from (begun i) (l i)) in
-    let finals : gathered-finals.it c.finish-finals.result ≡ finals_of (traces_of lines) =
-    c.finish-finals.ensures ∙ c.in_ok-traces.ensures.ok.gathers [] c.new-one.ensures ∙ ap finals_of did in
-    let now : resolved c.finish-finals.result ≡ finals_in lines = ap final_value finals in
-    let all = c.deref-2.ensures.value ∙ did in
+    let one : c.in_ok-one.one ≡ traces_of lines = c.in_ok-one.ensures.one ∙ ap traces_of c.deref.ensures.value in
+    let traces = c.into_parts-traces.result.0 in
+    let did : traces.items ≡ traces_of lines = c.into_parts-traces.ensures.traces ∙ one in
+    let finals : gathered-finals.it c.into_parts-traces.result.1 ≡ finals_of (traces_of lines) = c.into_parts-traces.ensures.gather ∙ ap finals_of one in
     let count : c.len.result ≡ length lines = omega (arith, c.len.ensures, c.args.lines.ok.0) in
-    let lengths = c.deref-4.ensures.value ∙ c.in_ok-lengths.ensures ∙ ap full_chunks count in
+    let lengths = c.deref-3.ensures.value ∙ c.in_ok-lengths.ensures ∙ ap full_chunks count in
     let division = divides (length lines) in
-    let many : length c.in_ok-traces.traces.items ≤ sum c.deref-4.result.now =
+    let many : length traces.items ≤ sum c.deref-3.result.now =
     omega (arith, ap length did ∙ length-traces_from first_state lines, ap sum lengths, division.total) in
-    let whole = ap (take (sum c.deref-4.result.now)) c.deref-5.ensures.value ∙ take_all (sum c.deref-4.result.now) c.in_ok-traces.traces.items many in
+    let whole = ap (take (sum c.deref-3.result.now)) c.deref-4.ensures.value ∙ take_all (sum c.deref-3.result.now) traces.items many in
     record {
       lines = record {
         first = c.first.ensures;
         did = did;
-        made = c.in_ok-outcomes.ensures.outcomes ∙ (λ i. outcomes_by (now i) (all i));
+        made = c.in_ok-outcomes.ensures.outcomes ∙ ap (λ (ts : List Trace). outcomes_under (finals_of ts) ts) one;
         chunks = subst (λ (ts : List Trace). AreChunksOf c.args.hashing c.chunks_of-chunks.result.items ts) whole c.chunks_of-chunks.ensures.chunks;
         divided = subst AreChunks (sym (c.chunks_of-chunks.ensures.lengths ∙ lengths)) division.chunks;
-        read = subst (λ (os : List Outcome). HasRead c.add_all.new.self os) c.deref-3.ensures.value c.in_ok-add_all.ensures.read;
+        read = subst (λ (os : List Outcome). HasRead c.add_all.new.self os) c.deref-2.ensures.value c.in_ok-add_all.ensures.read;
       };
       finals = finals;
     }
@@ -59,10 +53,10 @@ returns-clause-kept c =
 
 pub returns-clause-steps : goal.returns-clause-steps
 returns-clause-steps c =
-    let first = c.in_ok-traces.ensures in
+    let first = c.in_ok-one.ensures in
     let second = c.in_ok-outcomes.ensures.steps in
     let lines = ap length c.deref.ensures.value in
-    let traces = ap length (c.deref-2.ensures.value ∙ first.ok.did) ∙ length-traces_from _ _ ∙ lines in
+    let traces = ap length first.one ∙ length-traces_from _ _ ∙ lines in
     record {
       ones = omega (arith, first.steps.ones, second.ones, lines);
       twos = omega (arith, first.steps.twos, second.twos, traces);
@@ -74,10 +68,10 @@ returns-clause-steps c =
 
 pub returns-in_err-outcomes-clause-steps : goal.returns-in_err-outcomes-clause-steps
 returns-in_err-outcomes-clause-steps c =
-    let first = c.in_ok-traces.ensures in
+    let first = c.in_ok-one.ensures in
     let second = c.in_err-outcomes.ensures.steps in
     let lines = ap length c.deref.ensures.value in
-    let traces = ap length (c.deref-2.ensures.value ∙ first.ok.did) ∙ length-traces_from _ _ ∙ lines in
+    let traces = ap length first.one ∙ length-traces_from _ _ ∙ lines in
     record {
       ones = search (rules, c.from_residual-in_err-outcomes.ensures);
       twos = search (rules, c.from_residual-in_err-outcomes.ensures);
@@ -89,10 +83,10 @@ returns-in_err-outcomes-clause-steps c =
 
 pub returns-in_err-add_all-clause-steps : goal.returns-in_err-add_all-clause-steps
 returns-in_err-add_all-clause-steps c =
-    let first = c.in_ok-traces.ensures in
+    let first = c.in_ok-one.ensures in
     let second = c.in_ok-outcomes.ensures.steps in
     let lines = ap length c.deref.ensures.value in
-    let traces = ap length (c.deref-2.ensures.value ∙ first.ok.did) ∙ length-traces_from _ _ ∙ lines in
+    let traces = ap length first.one ∙ length-traces_from _ _ ∙ lines in
     record {
       ones = search (rules, c.from_residual-in_err-add_all.ensures);
       twos = search (rules, c.from_residual-in_err-add_all.ensures);

@@ -6,9 +6,9 @@ use Rattle.cps_batch.proofs.source.Source.with_traces.Goals as goal
 
 pub invariant_of-source : goal.invariant_of-source
 invariant_of-source c =
-    let traces = c.in_ok-one.ensures ∙ ap traces_of c.deref.ensures.value in
+    let traces = c.in_ok-one.ensures.one ∙ ap traces_of c.deref.ensures.value in
     record {
       few = c.requires;
-      made = c.in_ok-outcomes.ensures ∙ ap (λ (ts : List Trace). outcomes_under (finals_of ts) ts) traces;
+      made = c.in_ok-outcomes.ensures.outcomes ∙ ap (λ (ts : List Trace). outcomes_under (finals_of ts) ts) traces;
       gathered = c.into_parts-traces.ensures.gather ∙ ap finals_of traces;
     }

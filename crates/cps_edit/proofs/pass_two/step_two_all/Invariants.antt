@@ -2,7 +2,7 @@ use Rattle.std.proofs.Common.{◌≡◌, ◌++◌, drop}
 use Rattle.cps_state.specs.Work.{counted_on}
 use Rattle.cps_final.specs.Resolving.{resolved}
 use Rattle.cps_edit.specs.Passes.{outcomes_by}
-use Rattle.cps_live.proofs.second_pass.step_two_all.Given as goal
+use Rattle.cps_edit.proofs.pass_two.step_two_all.Given as goal
 
 abbrev pub invariant-loop-trace : goal.invariant-loop-trace
 invariant-loop-trace l = record {

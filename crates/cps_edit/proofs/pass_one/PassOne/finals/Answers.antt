@@ -1,6 +1,6 @@
 use Rattle.std.proofs.Common.{ap, ◌∙◌}
 use Rattle.cps_final.specs.Finals.{finals_of}
-use Rattle.cps_batch.proofs.kept_pass_one.KeptPassOne.finals.Goals as goal
+use Rattle.cps_edit.proofs.pass_one.PassOne.finals.Goals as goal
 
 pub returns : goal.returns
 returns c = c.self.invariant ∙ ap finals_of c.self.view_is
