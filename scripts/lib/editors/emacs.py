@@ -6,7 +6,7 @@ import subprocess
 import textwrap
 import time
 
-from .shared import COLUMNED, DOCUMENT, REFUSAL, SECONDS, TAKEN, TYPED, Terminal, printed, renamed, run, same, until
+from .shared import BENEATH, COLUMNED, DOCUMENT, HEADED, HEADINGS, HINTS, OUTLINED, REFUSAL, SECONDS, TAKEN, TYPED, Terminal, printed, renamed, run, same, until
 
 # Emacs answers here. Nothing else is set: what it says of its own packages as it compiles them isn't shown.
 BEGIN = """(progn (setq native-comp-async-report-warnings-errors nil server-name "{socket}") (server-start))"""
@@ -19,6 +19,15 @@ OUTLINE = """(vconcat (let (found) (letrec ((walk (lambda (one)
   (cond ((and (consp one) (consp (cdr one))) (mapc walk (cdr one)))
     ((and (consp one) (or (markerp (cdr one)) (and (numberp (cdr one)) (> (cdr one) 0)))) (push (line-number-at-pos (cdr one)) found))))))
   (mapc walk (imenu--make-index-alist t))) (sort found #'<)))"""
+# Each entry of the index that has others beneath it, with their names.
+TREE = """(vconcat (let (found) (letrec ((walk (lambda (one)
+  (when (and (consp one) (stringp (car one)) (consp (cdr one)))
+    (push (vconcat (list (car one)) (delq nil (mapcar (lambda (each) (car-safe each)) (cdr one)))) found)
+    (mapc walk (cdr one))))))
+  (mapc walk (imenu--make-index-alist t))) found))"""
+HINTED = """(vconcat (mapcar (lambda (one) (with-current-buffer (flymake-diagnostic-buffer one)
+  (vector (line-number-at-pos (flymake-diagnostic-beg one)) (replace-regexp-in-string "^compass: " "" (flymake-diagnostic-text one)))))
+  (seq-filter (lambda (one) (eq (flymake-diagnostic-type one) 'eglot-note)) (flymake-diagnostics))))"""
 
 
 class Emacs(Terminal):
@@ -155,6 +164,21 @@ def try_symbols(room, program):
     return in_emacs(room, ["sum.cps"], tried)
 
 
+def try_outline(room, program):
+    """An outline has each heading over the rows of its lines; what nothing reads, and lines that are skipped, are notes."""
+    def tried(editor):
+        same("notes", lambda: sorted(editor.asked(HINTED) or []), HINTS)
+        same("headings with rows beneath them", lambda: sorted(each for each in editor.asked(TREE) or [] if each[0] in ("CONSTANTS", "THE CODE")), BENEATH)
+        # eglot tells the places of headings or doesn't, by its version
+        same("the lines of an outline", lambda: [line for line in editor.asked(OUTLINE) if line not in HEADINGS], OUTLINED)
+        # what is mended is no note any more
+        editor.go(6)
+        editor.keys("C-a", "C-k", "C-k")
+        same("notes behind a change", lambda: sorted(editor.asked(HINTED) or []), [[10, "skipped"]])
+    room.write("sources/headed.cps", HEADED)
+    return in_emacs(room, ["headed.cps"], tried)
+
+
 def try_rename(room, program):
     """A rename changes each place of a name, and other fields keep their columns; why one is refused is shown."""
     def tried(editor):
@@ -231,7 +255,7 @@ def try_keys(room, program):
     return in_emacs(room, ["flags.cps"], tried)
 
 
-TRIES = [try_marks, try_symbols, try_rename, try_servers, try_layout, try_keys]
+TRIES = [try_marks, try_symbols, try_outline, try_rename, try_servers, try_layout, try_keys]
 
 
 def try_all(program):

@@ -4,7 +4,8 @@ import json
 import re
 import subprocess
 
-from .shared import COLUMNED, DOCUMENT, REFUSAL, SECONDS, TAKEN, TYPED, Fault, Terminal, printed, renamed, run, same, until
+from .shared import (BENEATH, COLUMNED, DOCUMENT, HEADED, HEADINGS, HINTS, OUTLINED, REFUSAL, SECONDS, TAKEN, TYPED, Fault, Terminal, printed, renamed, run, same,
+                     until)
 
 INIT = "home/.config/nvim/init.lua"
 # What has stood in README for a configuration of the user's own, from 0.8 on; and the like for 0.7.
@@ -34,10 +35,25 @@ end)()"""
 # So much of a line is looked at; behind it a mark may be told.
 LEAST = 50
 MARKS = "vim.tbl_map(function(one) return { one.severity, one.lnum + 1, one.col + 1, one.code or '' } end, vim.diagnostic.get(0))"
-ERROR = 1
-
+ERROR, HINT = 1, 4
+HINTED = f"vim.tbl_map(function(one) return {{ one.lnum + 1, one.message }} end, vim.diagnostic.get(0, {{ severity = {HINT} }}))"
+# The outline as it is told: each row with the names of those beneath it.
+TREE = """\
+(function()
+  local found = {}
+  local asked = { textDocument = vim.lsp.util.make_text_document_params() }
+  for _, told in pairs(vim.lsp.buf_request_sync(0, 'textDocument/documentSymbol', asked, 5000) or {}) do
+    for _, row in ipairs(told.result) do
+      local names = { row.name }
+      for _, below in ipairs(row.children or {}) do names[#names + 1] = below.name end
+      found[#found + 1] = names
+    end
+  end
+  return found
+end)()"""
 
 LISTED = "vim.tbl_map(function(one) return one.lnum end, vim.fn.getqflist())"
+SYMBOLS = "vim.tbl_map(function(one) return one.lnum end, vim.list_extend(vim.fn.getloclist(0), vim.fn.getqflist()))"
 
 # The groups of colours in a floating window.
 COLOURS = """\
@@ -163,9 +179,8 @@ def try_symbols(room, program):
         same("calls", lambda: editor.asked(LISTED), [17, 27, 28])
         editor.command("cclose")
         editor.command("lua vim.lsp.buf.document_symbol()")
-        listed = "vim.tbl_map(function(one) return one.lnum end, vim.list_extend(vim.fn.getloclist(0), vim.fn.getqflist()))"
         wanted = [number for number, line in enumerate(text.splitlines(), 1) if re.match(r"[A-Z]", line)]
-        same("symbols", lambda: sorted(set(editor.asked(listed) or [])), wanted)
+        same("symbols", lambda: sorted(set(editor.asked(SYMBOLS) or [])), wanted)
         if editor.asked("vim.lsp.inlay_hint ~= nil"):
             editor.command("lclose | cclose")
             editor.command("lua vim.lsp.inlay_hint.enable()")
@@ -174,6 +189,22 @@ def try_symbols(room, program):
             return None
         return "inlay hints, which this Neovim hasn't"
     return in_neovim(room, block(), ["sum.cps"], tried)
+
+
+def try_outline(room, program):
+    """An outline has each heading over the rows of its lines; what nothing reads, and lines that are skipped, are hints."""
+    def tried(editor):
+        same("hints", lambda: sorted(editor.asked(HINTED) or []), HINTS)
+        same("marks", lambda: editor.marks()[0], program.flags(HEADED))
+        same("an outline", lambda: editor.asked(TREE), [["FIRST"], *BENEATH])
+        editor.command("lua vim.lsp.buf.document_symbol()")
+        same("its lines", lambda: sorted(set(editor.asked(SYMBOLS) or [])), sorted(HEADINGS + OUTLINED))
+        # what is mended is no hint any more
+        editor.command("cclose | lclose")
+        editor.command("6delete")
+        same("hints behind a change", lambda: sorted(editor.asked(HINTED) or []), [[10, "skipped"]])
+    room.write("sources/headed.cps", HEADED)
+    return in_neovim(room, block(), ["headed.cps"], tried)
 
 
 def try_rename(room, program):
@@ -356,7 +387,7 @@ def try_listing(room, program):
 
 
 Neovim.text_of = lambda self, buffer: self.asked(f"vim.api.nvim_buf_get_lines({buffer}, 0, -1, false)")
-TRIES = [try_marks, try_symbols, try_rename, try_more, try_servers, try_own, try_keys, try_listing]
+TRIES = [try_marks, try_symbols, try_outline, try_rename, try_more, try_servers, try_own, try_keys, try_listing]
 
 
 def try_all(program):

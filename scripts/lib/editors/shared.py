@@ -17,6 +17,26 @@ TYPED, COLUMNED = ">SX1>B1>NOTE", "          SX1    B1          NOTE"
 # What a rename of SUM, the label in line 44, makes of sum.cps: what stands behind a name stays in its column. And one that is refused.
 RENAMED = ("RJ      SUM\n", "RJ      ADDER\n"), ("\nSUM  ", "\nADDER"), ("B3,SUM  ", "B3,ADDER")
 TAKEN, REFUSAL = "SUM1", "SUM1 is taken in line 27"
+# A source with headings, what stands beneath each, the lines of these and of all other rows, and its hints, where an editor takes the tag of what is unnecessary.
+HEADED = """\
+          IDENT  DECK
+          ABS
+FIRST     CON    0
+** CONSTANTS
+ONE       EQU    1
+TWO       EQU    2
+** THE CODE
+START     SA1    FIRST
+LOOP      SX6    ONE
+          IFEQ   ONE,2
+          SX7    3
+          ENDIF
+          EQ     LOOP
+          END    START
+"""
+BENEATH = [["CONSTANTS", "ONE", "TWO"], ["THE CODE", "START", "LOOP"]]
+HEADINGS, OUTLINED = [4, 7], [3, 5, 6, 8, 9]
+HINTS = [[6, "nothing reads TWO"], [11, "skipped"]]
 # A tool that isn't there, and a thing that this editor can't show: neither is a fault, nor is all as told.
 LEFT_OUT = 3
 

@@ -9,13 +9,13 @@ import subprocess
 import sys
 from collections import namedtuple
 
-from .shared import REFUSAL, ROOT, SECONDS, TAKEN, Fault, renamed, run, same, until
+from .shared import BENEATH, HEADED, HEADINGS, HINTS, OUTLINED, REFUSAL, ROOT, SECONDS, TAKEN, Fault, renamed, run, same, until
 
 FOLDER = os.path.join(ROOT, "editors/vscode")
 STUB = os.path.join(os.path.dirname(os.path.abspath(__file__)), "vscode_stub.js")
 DECK = "file:///decks/deck.cps"
 # As VS Code counts them.
-ERROR = 0
+ERROR, HINT = 0, 3
 # How often a server may end by itself within a minute, and what is shown then.
 MOST_ENDS = 4
 ENDS = f"COMPASS: {{}}, {MOST_ENDS} times within a minute. It isn't started again."
@@ -204,6 +204,18 @@ def try_answers(room, program):
         # nothing stands there, and that is no fault
         same("a hover behind the text", lambda: editor.ask("Hover", "provideHover", DECK, [len(lines) + 5, 0]), None)
         same("a definition of no name", lambda: editor.ask("Definition", "provideDefinition", DECK, [0, 0]), [])
+    in_code(program.path, tried)
+
+
+def try_outline(room, program):
+    """An outline has each heading over the rows of its lines; what nothing reads, and lines that are skipped, are hints."""
+    def tried(editor):
+        editor.open(DECK, HEADED)
+        same("hints", lambda: sorted([one["range"]["start"]["line"] + 1, one["message"]] for one in editor.tell("marks", uri=DECK) if one["severity"] == HINT), HINTS)
+        told = editor.ask("DocumentSymbol", "provideDocumentSymbols", DECK)
+        same("an outline", lambda: [[one["name"], *(each["name"] for each in one["children"])] for one in told], [["FIRST"], *BENEATH])
+        rows = [each for one in told for each in [one, *one["children"]]]
+        same("its lines", lambda: sorted(lines_of(rows)), sorted(HEADINGS + OUTLINED))
     in_code(program.path, tried)
 
 
@@ -515,7 +527,7 @@ def try_package(room, program):
     same("commands of keys", lambda: {each["command"] for each in offers["keybindings"]} - known, set())
 
 
-TRIES = [try_package, try_marks, try_answers, try_rename, try_more, try_servers, try_end, try_ends, try_choice, try_missing, try_later, try_sent, try_keys]
+TRIES = [try_package, try_marks, try_answers, try_outline, try_rename, try_more, try_servers, try_end, try_ends, try_choice, try_missing, try_later, try_sent, try_keys]
 
 
 def try_all(program):
