@@ -2,6 +2,7 @@
 use Rattle.std.proofs.Common.{rules, ◌≡◌, refl, ap, subst, sym, ◌∙◌, append_assoc, arith, ℕ, zero, suc, ◌+◌, ◌-◌, ◌<◌, ℤ, Bool, true, false, List, [], ◌∷◌, ◌++◌, map, drop, Option, Some, None}
 use Rattle.std.specs.Prelude.{IfSome, codes, decimal, length, nat_lt, slice_get, slice_index_or, take, unwrap_or, Result, Ok, Err, OnOk, is_ok, if◌then◌else◌}
 use Rattle.std.proofs.lemmas.Bool.Decides.{nat_tests}
+use Rattle.std.proofs.lemmas.Fmt.{decimal_digit}
 use Rattle.std.proofs.lemmas.List.{append-nil, drop-map, length-drop, length-map, length-take, take-map, take-take}
 use Rattle.std.proofs.lemmas.List.Elements.{All-append, All-nil}
 use Rattle.json.specs.Print.{escape_byte}
@@ -28,7 +29,7 @@ use Rattle.cps_server.specs.declared.note_form.NoteForm.{NoteForm}
 use Rattle.cps_server.specs.declared.queried_text.QueriedText.{QueriedText}
 use Rattle.cps_server.specs.Diagnostics.{IsRelation, Listener, MayRelate, TellsBeside, TellsIdle, TellsMark, TellsMarks, diagnostic, letter_name, more_message, most_told, note_severity, published, range_among, relation, report, tags, told_of_more, with_relation}
 use Rattle.cps_server.specs.Code.Listing.{ListsMarks}
-use Rattle.cps_server.specs.Code.Writing.{AddsAllBeside, AddsBeside, AddsIdle, AddsMark, AddsMarks, AddsNote, IsIdleAmong, IsOther, ListsText, columns_stretch, counted_text, diagnostic_text, document_text, form_for, idle_text, information_text, list_text, listener_of, message_text, more_text, note_text, position_text, published_text, range_text, relation_json, relation_text, stretch_for, stretch_json, tags_text, version_text, written_report}
+use Rattle.cps_server.specs.Code.Writing.{AddsAllBeside, AddsBeside, AddsIdle, AddsMark, AddsMarks, AddsNote, IsIdleAmong, IsOther, ListsText, columns_stretch, counted_text, diagnostic_text, document_text, form_for, idle_text, end_text, information_text, list_text, listener_of, message_text, more_text, note_text, position_text, published_text, range_text, relation_json, relation_text, stretch_for, stretch_json, tags_text, version_text, written_report}
 
 -- ---- a diagnostic
 
@@ -94,9 +95,6 @@ relation-written (Some r) rest =
 front-joins : (a m b r rest : List ℕ) → a ++ (m ++ (b ++ (r ++ rest))) ≡ (a ++ m ++ b ++ r) ++ rest
 front-joins a m b r rest = simp append_assoc
 
-end-joins : (f l s n c t e : List ℕ) → f ++ (l ++ (s ++ (n ++ (c ++ (t ++ e))))) ≡ f ++ l ++ s ++ n ++ c ++ t ++ e
-end-joins f l s n c t e = simp append_assoc
-
 report-written : (severity : ℕ) (at : Stretch) (message : List ℕ) (place : Option Relation) (is_unnecessary : Bool)
     → members_text false (report severity (stretch_json at) message (relation_json place) is_unnecessary)
     ≡ written_report severity at message place is_unnecessary
@@ -107,8 +105,7 @@ report-written severity at message place is_unnecessary =
     ∙ (λ i. (codes "\"message\":" ++ compact_text (string message) ++ codes ",\"range\":" ++ range-written at i)
     ++ relation-written place (behind severity is_unnecessary) i)
     ∙ ap (λ end. message_text at message ++ (relation_text place ++ end)) (behind-written severity is_unnecessary)
-    ∙ end-joins (message_text at message) (relation_text place) (codes ",\"severity\":") (decimal severity) (codes ",\"source\":\"compass\"")
-    (tags_text is_unnecessary) (codes "}")
+    ∙ sym (append_assoc (message_text at message) (relation_text place) (end_text severity is_unnecessary))
 
 flag-written : (letter : Letter) (range : Data) (message : List ℕ) (place : Option Data)
     → compact_text (diagnostic (Flag letter) range message place)
@@ -373,10 +370,25 @@ list-made to text marks first left count list mid behind idle new later lists is
     more : counted_text encoding lines (map place_of left) count ≡ more_text encoding lines (drop most_told places)
     more = ap (λ (ms : List Mark). counted_text encoding lines ms count) back ∙ counted-more encoding lines count (drop most_told places) so_many
 
+-- ---- the end of a diagnostic
+
+pub tag-known : tags_text true ≡ codes ",\"tags\":[1]"
+tag-known = ap (λ (d : List ℕ). codes ",\"tags\":[" ++ d ++ codes "]") (decimal_digit 1 (omega arith))
+
+pub end-known : (severity : ℕ) (is_unnecessary : Bool) (digit tags : List ℕ) → decimal severity ≡ digit → tags_text is_unnecessary ≡ tags
+    → end_text severity is_unnecessary ≡ codes ",\"severity\":" ++ (digit ++ (codes ",\"source\":\"compass\"" ++ (tags ++ codes "}")))
+end-known severity is_unnecessary digit tags d t = λ i. codes ",\"severity\":" ++ (d i ++ (codes ",\"source\":\"compass\"" ++ (t i ++ codes "}")))
+
 -- ---- parts that are appended one after another
 
 pub seven-appended : (old a b d e f g h : List ℕ) → ((((((old ++ a) ++ b) ++ d) ++ e) ++ f) ++ g) ++ h ≡ old ++ (a ++ b ++ d ++ e ++ f ++ g ++ h)
 seven-appended old a b d e f g h = simp append_assoc
+
+-- a range, in fewer parts than its positions have
+pub range-appended : (old a b d e f i j k l : List ℕ)
+    → (((((((((old ++ (a ++ b)) ++ i) ++ d) ++ j) ++ (e ++ (f ++ b))) ++ k) ++ d) ++ l) ++ (e ++ e))
+    ≡ old ++ (a ++ (b ++ i ++ d ++ j ++ e) ++ f ++ (b ++ k ++ d ++ l ++ e) ++ e)
+range-appended old a b d e f i j k l = simp append_assoc
 
 -- where the last of them came
 pub on-ok-items : {T E : Type 0} (r : Result T E) (new old more : List ℕ) → new ≡ (if is_ok r then old ++ more else old) → OnOk r (new ≡ old ++ more)

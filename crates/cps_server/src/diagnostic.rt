@@ -1,8 +1,8 @@
 //! A diagnostic, as it is written.
 ghost use Rattle.std.specs.Prelude.{◌≡◌, ◌++◌, OnOk};
 ghost use Rattle.cps_server.specs.declared.mark_kind.MarkKind.TheVariants.{Flag, Wrong};
-ghost use Rattle.cps_server.specs.Diagnostics as diagnostics;
-ghost use Rattle.cps_server.specs.Code.Writing.{columns_stretch, diagnostic_text, idle_text, information_text, message_text, note_text, position_text, range_text, relation_text, report_text, tags_text};
+ghost use Rattle.cps_server.specs.Diagnostics.{note_severity};
+ghost use Rattle.cps_server.specs.Code.Writing.{columns_stretch, diagnostic_text, end_text, flag_front, idle_text, information_text, level, message_text, note_text, range_text, relation_text, report_text};
 
 use crate::mark_kind::MarkKind;
 use crate::note_form::NoteForm;
@@ -12,15 +12,13 @@ use cps_list::push_decimal;
 use cps_rpc::{Encoding, units_before};
 use std::alloc::{AllocError, Global};
 
-/// How severe a diagnostic is, as the protocol counts.
-const ERROR: u64 = 1;
-
-const INFORMATION: u64 = 3;
-
-const HINT: u64 = 4;
-
-/// The tag of what is unnecessary, as the protocol counts.
-const UNNECESSARY: u64 = 1;
+/// How severe a diagnostic is.
+#[derive(Clone, Copy)]
+enum Severity {
+    Error,
+    Information,
+    Hint,
+}
 
 /// Where a diagnostic shows: from so many units of a line up to others of the last line. Lines count from 0.
 #[derive(Clone, Copy)]
@@ -89,10 +87,8 @@ fn push_flag(
     ensures { OnOk result (text.new.items ≡ text.old.items
         ++ diagnostic_text (Flag letter) report.entry.stretch report.entry.message.now report.entry.relation) }
 {
-    text.extend_from_slice(b"{\"code\":\"")?;
-    text.extend_from_slice(letter_name(letter).as_bytes())?;
-    text.extend_from_slice(b"\",")?;
-    push_report(alloc, text, ERROR, report, false)
+    text.extend_from_slice(front_of(letter))?;
+    push_report(alloc, text, Severity::Error, report, false)
 }
 
 /// Appends the diagnostic of bytes that no line may have.
@@ -101,7 +97,7 @@ fn push_fault(alloc: Global, text: &mut Vec<u8>, report: Report<'_>) -> Result<(
         ++ diagnostic_text Wrong report.entry.stretch report.entry.message.now report.entry.relation) }
 {
     text.extend_from_slice(b"{")?;
-    push_report(alloc, text, ERROR, report, false)
+    push_report(alloc, text, Severity::Error, report, false)
 }
 
 /// Appends the diagnostic of what is no error.
@@ -119,7 +115,7 @@ pub fn push_information(
         relation: None,
     };
     text.extend_from_slice(b"{")?;
-    push_report(alloc, text, INFORMATION, report, false)
+    push_report(alloc, text, Severity::Information, report, false)
 }
 
 /// Appends the diagnostic of what is unnecessary.
@@ -137,7 +133,7 @@ pub fn push_unnecessary(
         relation: None,
     };
     text.extend_from_slice(b"{")?;
-    push_report(alloc, text, HINT, report, true)
+    push_report(alloc, text, Severity::Hint, report, true)
 }
 
 /// Appends the diagnostic of a note.
@@ -155,28 +151,48 @@ pub fn push_note(
         message,
         relation: None,
     };
-    let severity = if form.is_unread { HINT } else { INFORMATION };
     text.extend_from_slice(b"{")?;
-    push_report(alloc, text, severity, report, form.is_tagged)
+    push_report(alloc, text, severity_of(form), report, form.is_tagged)
 }
 
 /// Appends what all diagnostics have, and their end.
 fn push_report(
     alloc: Global,
     text: &mut Vec<u8>,
-    severity: u64,
+    severity: Severity,
     report: Report<'_>,
     is_unnecessary: bool,
 ) -> Result<(), AllocError>
-    ensures { OnOk result (text.new.items ≡ text.old.items ++ report_text severity report.entry is_unnecessary) }
+    ensures { OnOk result (text.new.items ≡ text.old.items ++ report_text (level severity) report.entry is_unnecessary) }
 {
     push_message(alloc, text, report.stretch, report.message)?;
     push_relation(alloc, text, report.relation)?;
-    text.extend_from_slice(b",\"severity\":")?;
-    push_decimal(text, severity)?;
-    text.extend_from_slice(b",\"source\":\"compass\"")?;
-    push_tags(text, is_unnecessary)?;
-    text.extend_from_slice(b"}")
+    text.extend_from_slice(end_of(severity, is_unnecessary))
+}
+
+/// How severe a note is.
+fn severity_of(form: NoteForm) -> Severity
+    ensures { level result ≡ note_severity form.is_unread }
+{
+    if form.is_unread {
+        Severity::Hint
+    } else {
+        Severity::Information
+    }
+}
+
+/// What stands at the end of a diagnostic: how severe it is, who tells it, and that what it shows is unnecessary, all as the protocol counts.
+fn end_of(severity: Severity, is_unnecessary: bool) -> &'static [u8]
+    ensures { result.now ≡ end_text (level severity) is_unnecessary }
+{
+    match (severity, is_unnecessary) {
+        (Severity::Error, false) => b",\"severity\":1,\"source\":\"compass\"}",
+        (Severity::Error, true) => b",\"severity\":1,\"source\":\"compass\",\"tags\":[1]}",
+        (Severity::Information, false) => b",\"severity\":3,\"source\":\"compass\"}",
+        (Severity::Information, true) => { b",\"severity\":3,\"source\":\"compass\",\"tags\":[1]}" }
+        (Severity::Hint, false) => b",\"severity\":4,\"source\":\"compass\"}",
+        (Severity::Hint, true) => b",\"severity\":4,\"source\":\"compass\",\"tags\":[1]}",
+    }
 }
 
 /// Appends another place to which a diagnostic leads.
@@ -199,18 +215,6 @@ fn push_relation(
     text.extend_from_slice(b"}]")
 }
 
-/// Appends the tag of what is unnecessary.
-fn push_tags(text: &mut Vec<u8>, is_unnecessary: bool) -> Result<(), AllocError>
-    ensures { OnOk result (text.new.items ≡ text.old.items ++ tags_text is_unnecessary) }
-{
-    if !is_unnecessary {
-        return Ok(());
-    }
-    text.extend_from_slice(b",\"tags\":[")?;
-    push_decimal(text, UNNECESSARY)?;
-    text.extend_from_slice(b"]")
-}
-
 /// Appends a message, and where it shows.
 fn push_message(
     alloc: Global,
@@ -226,40 +230,33 @@ fn push_message(
     push_range(text, stretch)
 }
 
-/// Appends a range in a line.
+/// Appends a range: its end and its start, each by the units before it in a line, and that line.
 fn push_range(text: &mut Vec<u8>, stretch: Stretch) -> Result<(), AllocError>
     ensures { OnOk result (text.new.items ≡ text.old.items ++ range_text stretch) }
 {
-    text.extend_from_slice(b"{\"end\":")?;
-    push_position(text, stretch.last, stretch.end)?;
-    text.extend_from_slice(b",\"start\":")?;
-    push_position(text, stretch.line, stretch.start)?;
-    text.extend_from_slice(b"}")
-}
-
-/// Appends a position: a line, from 0, and the units before it there.
-fn push_position(text: &mut Vec<u8>, line: u32, character: u32) -> Result<(), AllocError>
-    ensures { OnOk result (text.new.items ≡ text.old.items ++ position_text line character) }
-{
-    text.extend_from_slice(b"{\"character\":")?;
-    push_decimal(text, u64::from(character))?;
+    text.extend_from_slice(b"{\"end\":{\"character\":")?;
+    push_decimal(text, u64::from(stretch.end))?;
     text.extend_from_slice(b",\"line\":")?;
-    push_decimal(text, u64::from(line))?;
-    text.extend_from_slice(b"}")
+    push_decimal(text, u64::from(stretch.last))?;
+    text.extend_from_slice(b"},\"start\":{\"character\":")?;
+    push_decimal(text, u64::from(stretch.start))?;
+    text.extend_from_slice(b",\"line\":")?;
+    push_decimal(text, u64::from(stretch.line))?;
+    text.extend_from_slice(b"}}")
 }
 
-/// The name of a flag's letter.
-fn letter_name(letter: Letter) -> &'static str
-    ensures { result.now ≡ diagnostics.letter_name letter }
+/// What stands at the front of the diagnostic of a flag.
+fn front_of(letter: Letter) -> &'static [u8]
+    ensures { result.now ≡ flag_front letter }
 {
     match letter {
-        Letter::A => "A",
-        Letter::D => "D",
-        Letter::E => "E",
-        Letter::L => "L",
-        Letter::O => "O",
-        Letter::T => "T",
-        Letter::U => "U",
-        Letter::V => "V",
+        Letter::A => b"{\"code\":\"A\",",
+        Letter::D => b"{\"code\":\"D\",",
+        Letter::E => b"{\"code\":\"E\",",
+        Letter::L => b"{\"code\":\"L\",",
+        Letter::O => b"{\"code\":\"O\",",
+        Letter::T => b"{\"code\":\"T\",",
+        Letter::U => b"{\"code\":\"U\",",
+        Letter::V => b"{\"code\":\"V\",",
     }
 }

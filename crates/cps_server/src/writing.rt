@@ -1,5 +1,6 @@
 //! JSON, written with no blank in it.
-ghost use Rattle.std.specs.Prelude.{◌≡◌, ◌++◌, false, OnOk};
+ghost use Rattle.std.specs.Prelude.{◌≡◌, [], ◌∷◌, ◌++◌, false, IsTrue, OnOk};
+ghost use Rattle.json.specs.Print.{escape, escape_byte};
 ghost use Rattle.serde_json.specs.Data.{string};
 ghost use Rattle.serde_json.specs.View.{view};
 ghost use Rattle.serde_json.specs.Written.{comma_if, compact_text, has_float};
@@ -18,12 +19,44 @@ pub fn push_comma(text: &mut Vec<u8>, later: bool) -> Result<(), AllocError>
     Ok(())
 }
 
-/// Appends a text of characters.
+/// Appends a text of characters. Only one with characters that are escaped is copied before.
 pub fn push_string(alloc: Global, text: &mut Vec<u8>, characters: &str) -> Result<(), AllocError>
     ensures { OnOk result (text.new.items ≡ text.old.items ++ compact_text (string characters.now)) }
 {
+    if is_plain(characters.as_bytes()) {
+        return push_plain(text, characters.as_bytes());
+    }
     let json = Value::try_from_str(alloc, characters)?;
     push_value(alloc, text, &json)
+}
+
+/// Whether no byte of a text is escaped.
+fn is_plain(bytes: &[u8]) -> bool
+    ensures { IsTrue result → escape bytes.now ≡ bytes.now }
+{
+    let mut plain = true;
+    for byte in bytes {
+        plain &= stands_for_itself(*byte);
+    }
+    plain
+}
+
+/// Whether a byte is written as it is.
+fn stands_for_itself(byte: u8) -> bool
+    ensures { IsTrue result → escape_byte byte ≡ byte ∷ [] }
+{
+    byte >= b' ' && byte != b'"' && byte != b'\\'
+}
+
+/// Appends a text of which no byte is escaped.
+fn push_plain(text: &mut Vec<u8>, bytes: &[u8]) -> Result<(), AllocError>
+    requires { escape bytes.now ≡ bytes.now }
+    ensures { OnOk result (text.new.items ≡ text.old.items ++ compact_text (string bytes.now)) }
+{
+    text.push(b'"')?;
+    text.extend_from_slice(bytes)?;
+    text.push(b'"')?;
+    Ok(())
 }
 
 /// Appends the member that tells a version, if it is known.

@@ -5,12 +5,15 @@ use Rattle.serde_json.specs.Find.{of_integer}
 use Rattle.serde_json.specs.View.{items_of}
 use Rattle.serde_json.specs.Written.{compact_text, items_text}
 use Rattle.cps_rpc.specs.declared.encoding.Encoding.{Encoding}
+use Rattle.cps_cause.specs.declared.letter.Letter.{Letter}
 use Rattle.cps_server.specs.declared.mark_kind.MarkKind.{MarkKind}
 use Rattle.cps_server.specs.declared.mark_kind.MarkKind.TheVariants.{Flag, Wrong}
 use Rattle.cps_server.specs.Marks.{Mark}
 use Rattle.cps_server.specs.declared.diagnostic.Relation.{Relation}
 use Rattle.cps_server.specs.declared.diagnostic.Report.{Report}
 use Rattle.cps_server.specs.declared.diagnostic.Stretch.{Stretch}
+use Rattle.cps_server.specs.declared.diagnostic.Severity.{Severity}
+use Rattle.cps_server.specs.declared.diagnostic.Severity.TheVariants.{Error, Information, Hint}
 use Rattle.cps_server.specs.declared.idle_lines.IdleLines.{IdleLines}
 use Rattle.cps_server.specs.declared.note_form.NoteForm.{NoteForm}
 use Rattle.cps_server.specs.declared.queried_text.QueriedText.{QueriedText}
@@ -42,18 +45,29 @@ abbrev pub tags_text : Bool → List ℕ
 tags_text false = []
 tags_text true = codes ",\"tags\":[" ++ decimal 1 ++ codes "]"
 
+-- how severe it is, as the protocol counts
+abbrev pub level : Severity → ℕ
+level Error = 1
+level Information = 3
+level Hint = 4
+
+abbrev pub end_text : ℕ → Bool → List ℕ
+end_text severity is_unnecessary =
+    codes ",\"severity\":" ++ (decimal severity ++ (codes ",\"source\":\"compass\"" ++ (tags_text is_unnecessary ++ codes "}")))
+
 -- what all diagnostics have, and their end
 abbrev pub written_report : ℕ → Stretch → List ℕ → Option Relation → Bool → List ℕ
-written_report severity at message place is_unnecessary =
-    message_text at message ++ relation_text place ++ codes ",\"severity\":" ++ decimal severity ++ codes ",\"source\":\"compass\""
-    ++ tags_text is_unnecessary ++ codes "}"
+written_report severity at message place is_unnecessary = message_text at message ++ relation_text place ++ end_text severity is_unnecessary
 
 abbrev pub report_text : ℕ → Report → Bool → List ℕ
 report_text severity told is_unnecessary = written_report severity told.stretch told.message.now told.relation is_unnecessary
 
+abbrev pub flag_front : Letter → List ℕ
+flag_front letter = codes "{\"code\":\"" ++ letter_name letter ++ codes "\","
+
 -- an error
 abbrev pub diagnostic_text : MarkKind → Stretch → List ℕ → Option Relation → List ℕ
-diagnostic_text (Flag letter) at message place = codes "{\"code\":\"" ++ letter_name letter ++ codes "\"," ++ written_report 1 at message place false
+diagnostic_text (Flag letter) at message place = flag_front letter ++ written_report 1 at message place false
 diagnostic_text Wrong at message place = codes "{" ++ written_report 1 at message place false
 
 -- information without a code
