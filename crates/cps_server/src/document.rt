@@ -181,13 +181,13 @@ fn put_cards(
     let mut session = session;
     let redone = put_lines(alloc, &mut session, first, end, cards)?;
     let has = puts_between(alloc, &session, first, first + count)?;
-    let names_stand = had == has;
+    let puts_stand = had == has;
     let touched = TouchedLines {
         first,
         end,
         count,
         redone,
-        names_stand,
+        puts_stand,
     };
     Ok((session, touched))
 }
@@ -219,23 +219,31 @@ fn put_lines(
     }
 }
 
+/// What a line puts in pass one, and how many lines stand above it.
+#[derive(PartialEq, Drop)]
+struct LinePut {
+    above: usize,
+    put: Put,
+}
+
 /// What the lines of a source from one up to another, from 0, put in pass one.
 fn puts_between(
     alloc: Global,
     session: &Session,
     first: usize,
     end: usize,
-) -> Result<Vec<Put>, AllocError> {
+) -> Result<Vec<LinePut>, AllocError> {
     let traces = session.traces();
     let end = end.min(traces.len());
     let mut puts = Vec::new(alloc);
-    for trace in &traces[first.min(end)..end] {
+    for (above, trace) in traces[first.min(end)..end].iter().enumerate() {
         for put in trace.puts() {
             let answer = put.answer.share()?;
-            puts.push(Put {
+            let put = Put {
                 key: put.key,
                 answer,
-            })?;
+            };
+            puts.push(LinePut { above, put })?;
         }
     }
     Ok(puts)

@@ -1,5 +1,6 @@
 //! The notes of a source, kept line by line.
 
+use crate::changed_names::ChangedNames;
 use crate::document::Document;
 use crate::idle_lines::{IdleLines, find_runs};
 use crate::noted_line::NotedLine;
@@ -89,26 +90,27 @@ impl KeptNotes {
         Ok(notes)
     }
 
-    /// Behind a change of the document.
+    /// Behind a change of the document. Gives the names that stand for something now and didn't before, or the other way round.
     pub fn change(
         &mut self,
         document: &Document,
         touched: &TouchedLines,
-    ) -> Result<(), AllocError> {
+    ) -> Result<ChangedNames, AllocError> {
+        let mut changed = ChangedNames::new(self.alloc);
         if touched.keeps_numbers() {
             for place in touched.first..touched.end {
-                self.renew(document, place)?;
+                self.renew(document, place, &mut changed)?;
             }
         } else {
-            self.put_lines(document, touched)?;
+            self.put_lines(document, touched, &mut changed)?;
         }
         for place in &touched.redone.places {
-            self.renew(document, *place)?;
+            self.renew(document, *place, &mut changed)?;
         }
         if self.is_stale || self.lacks_end != self.finds_no_end(document) {
             self.find_told(document)?;
         }
-        Ok(())
+        Ok(changed)
     }
 
     /// Runs of lines that nothing assembles, from the first on.
@@ -135,25 +137,40 @@ impl KeptNotes {
     // ---- a change
 
     /// Puts lines that came in the place of those that gave way.
-    fn put_lines(&mut self, document: &Document, touched: &TouchedLines) -> Result<(), AllocError> {
+    fn put_lines(
+        &mut self,
+        document: &Document,
+        touched: &TouchedLines,
+        changed: &mut ChangedNames,
+    ) -> Result<(), AllocError> {
         let mut come = Vec::new(self.alloc);
+        let mut defined = Vec::new(self.alloc);
         for at in 0..touched.count {
             let number = u32::try_from(touched.first.saturating_add(at)).unwrap_or(u32::MAX);
             let line = NotedLine::of(self.alloc, document, number, &mut self.symbols)?;
             self.readers.add(&line)?;
+            defined.extend_from_slice(&line.defines)?;
             come.push(line)?;
         }
         let end = touched.end.min(self.lines.len());
         let gone = self.lines.splice(touched.first.min(end)..end, come)?;
+        let mut left = Vec::new(self.alloc);
         for line in gone {
             self.readers.remove(&line)?;
+            left.extend_from_slice(&line.defines)?;
         }
+        changed.add(&left, &defined)?;
         self.is_stale = true;
         Ok(())
     }
 
     /// Makes anew what is noted of a line, if there is such a line. A symbol without a value is in no note, whoever reads it.
-    fn renew(&mut self, document: &Document, place: usize) -> Result<(), AllocError> {
+    fn renew(
+        &mut self,
+        document: &Document,
+        place: usize,
+        changed: &mut ChangedNames,
+    ) -> Result<(), AllocError> {
         if place >= self.lines.len() {
             return Ok(());
         }
@@ -163,6 +180,7 @@ impl KeptNotes {
             return Ok(());
         }
         let finals = document.session().finals();
+        changed.add(&self.lines[place].defines, &line.defines)?;
         let tells_other = !line.tells_as(&self.lines[place]);
         let gains = self.readers.gain_by(&line, finals);
         self.readers.add(&line)?;

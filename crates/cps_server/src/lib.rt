@@ -5,6 +5,7 @@
 //! - `actions.rt`: what may be mended in lines
 //! - `answering.rt`: what is told to a query
 //! - `cards.rt`: the cards of lines of a text
+//! - `changed_names.rt`: names that a change made stand for something, or for nothing
 //! - `closing.rt`: what closes lines that are open
 //! - `columns.rt`: where a symbol stands in a line
 //! - `completions.rt`: what may be written next
@@ -96,6 +97,7 @@ mod action;
 mod actions;
 mod answering;
 mod cards;
+mod changed_names;
 mod closing;
 mod columns;
 mod completions;

@@ -3,6 +3,7 @@ ghost use Rattle.std.specs.Prelude.{◌≡◌, ◌<◌, [], ◌∷◌, length, m
 ghost use Rattle.cps_server.specs.Document.{source_of_text};
 ghost use Rattle.cps_server.specs.Code.Keeping.{KeepsLine, Shows, ShowsFlags, ShowsMarks, fault_shown, flag_shown};
 
+use crate::changed_names::ChangedNames;
 use crate::document::Document;
 use crate::lead::{FlaggedLine, Lead};
 use crate::line_mark::LineMark;
@@ -10,7 +11,24 @@ use crate::mark_kind::MarkKind;
 use cps_cause::{Columns, Diagnostic, Letter, LinesAbove, explain};
 use cps_input::{CharacterFault, faults_of};
 use cps_list::View;
+use cps_text::Name;
 use std::alloc::{AllocError, Global};
+
+/// What a change may have changed of what words of marks tell of other lines.
+#[derive(Drop)]
+pub struct ChangedWords {
+    /// Which names stand for something.
+    pub names: ChangedNames,
+    /// The numbers of lines, and which of them open what is open.
+    pub numbers: bool,
+}
+
+impl ChangedWords {
+    /// Whether there is nothing that words may tell otherwise.
+    pub fn are_none(&self) -> bool {
+        self.names.is_empty() && !self.numbers
+    }
+}
 
 /// The marks of a line.
 pub struct LineMarks {
@@ -37,15 +55,17 @@ impl LineMarks {
         Ok(LineMarks { marks })
     }
 
-    /// Whether words of these marks may be other ones where lines come or go elsewhere. They may tell what others define; those of flag E the number of a line
-    /// too; and those of a character that no line has whether the line is the first.
-    pub fn rest_on_others(&self, names_stand: bool) -> bool {
+    /// Whether words of these marks may be other ones behind a change elsewhere. Those of a symbol or an operation that is none may tell a name that is near
+    /// to it; those of flag E the number of a line; and those of a character that no line has whether the line is the first.
+    pub fn rest_on(&self, changed: &ChangedWords) -> bool {
         for mark in &self.marks {
-            let tells_number = match mark.kind {
-                MarkKind::Flag(letter) => letter == Letter::E,
-                MarkKind::Wrong => true,
+            let rests = match mark.kind {
+                MarkKind::Flag(Letter::U) => changed.names.may_be_meant_by(mark.lacks),
+                MarkKind::Flag(Letter::O) => !changed.names.is_empty(),
+                MarkKind::Flag(Letter::E) | MarkKind::Wrong => changed.numbers,
+                MarkKind::Flag(_) => false,
             };
-            if tells_number || !names_stand {
+            if rests {
                 return true;
             }
         }
@@ -105,6 +125,7 @@ fn push_fault(
         },
         kind: MarkKind::Wrong,
         lead: Lead::Nowhere,
+        lacks: None,
         message,
     })?;
     Ok(())
@@ -180,13 +201,29 @@ fn push_cause(
     let message = message_of(alloc, flagged, told)?;
     let lead = flagged.lead_of(told)?;
     let letter = told.cause.letter();
+    let lacks = name_lacked(flagged.line, told);
     marks.push(LineMark {
         columns: told.columns,
         kind: MarkKind::Flag(letter),
         lead,
+        lacks,
         message,
     })?;
     Ok(())
+}
+
+/// The symbol that has no value, where that is why a line has a flag, and if its columns write it.
+fn name_lacked(line: &[u8], told: &Diagnostic) -> Option<Name> {
+    if told.cause.letter() != Letter::U {
+        return None;
+    }
+    let statement = told.statement.as_slice();
+    let written = if statement.is_empty() {
+        line
+    } else {
+        statement
+    };
+    Name::read(told.within.of(written))
 }
 
 /// Why a line has a flag; and in a second row the statement of its expansion that has it, where it isn't the line's own.

@@ -7,7 +7,7 @@ ghost use Rattle.cps_server.specs.Code.Keeping.{AreKept, AreKeptBut, AreLeft, Is
 
 use crate::document::Document;
 use crate::kept_notes::KeptNotes;
-use crate::line_marks::LineMarks;
+use crate::line_marks::{ChangedWords, LineMarks};
 use crate::touched_lines::TouchedLines;
 use cps_rpc::{Encoding, Range};
 use cps_state::Hashing;
@@ -59,7 +59,7 @@ impl MarkedDocument {
     }
 
     /// The document with new text in the place of a range, or, where no range is told, of all of its text. Marks are made of the lines that came, of those that
-    /// the session made anew, and of those whose words may tell of lines that came or went. An error: there was no memory, and the document is gone.
+    /// the session made anew, and of those whose words may tell what is another one elsewhere. An error: there was no memory, and the document is gone.
     pub fn change(
         self,
         encoding: Encoding,
@@ -80,8 +80,12 @@ impl MarkedDocument {
             drop(notes);
             return MarkedDocument::of(alloc, document);
         };
-        notes.change(&document, &touched)?;
-        let kept = renewed(alloc, &document, kept, touched)?;
+        let names = notes.change(&document, &touched)?;
+        let changed = ChangedWords {
+            names,
+            numbers: !touched.puts_stand || !touched.keeps_numbers(),
+        };
+        let kept = renewed(alloc, &document, kept, touched, &changed)?;
         Ok(MarkedDocument {
             alloc,
             document,
@@ -131,6 +135,7 @@ fn renewed(
     document: &Document,
     kept: Vec<LineMarks>,
     touched: TouchedLines,
+    changed: &ChangedWords,
 ) -> Result<Vec<LineMarks>, AllocError>
     requires { AreLeft document.now kept.items touched }
     ensures { IfOk result (λ now. AreKept document.now now.items) }
@@ -138,10 +143,10 @@ fn renewed(
     let mut kept = kept;
     put_marks(alloc, document, &mut kept, &touched)?;
     renew_lines(alloc, document, &mut kept, &touched.redone.places)?;
-    if touched.names_stand && touched.keeps_numbers() {
+    if changed.are_none() {
         return Ok(kept);
     }
-    renew_words(alloc, document, &mut kept, touched.names_stand)?;
+    renew_words(alloc, document, &mut kept, changed)?;
     Ok(kept)
 }
 
@@ -210,35 +215,35 @@ fn renew_lines(
     Ok(())
 }
 
-/// Makes the marks of all lines anew whose words may tell of lines that came or went.
+/// Makes the marks of all lines anew whose words may tell what a change changed.
 fn renew_words(
     alloc: Global,
     document: &Document,
     kept: &mut Vec<LineMarks>,
-    names_stand: bool,
+    changed: &ChangedWords,
 ) -> Result<(), AllocError>
     requires { AreKept document.now kept.old.items }
     ensures { OnOk result (AreKept document.now kept.new.items) }
 {
     for place in 0..kept.len() {
-        renew_if_resting(alloc, document, kept, place, names_stand)?;
+        renew_if_resting(alloc, document, kept, place, changed)?;
     }
     Ok(())
 }
 
-/// Makes the marks of a line anew if their words may tell of lines that came or went.
+/// Makes the marks of a line anew if their words may tell what a change changed.
 fn renew_if_resting(
     alloc: Global,
     document: &Document,
     kept: &mut Vec<LineMarks>,
     place: usize,
-    names_stand: bool,
+    changed: &ChangedWords,
 ) -> Result<(), AllocError>
     requires there { place < vec_len kept.old }
     requires right { AreKept document.now kept.old.items }
     ensures { OnOk result (AreKept document.now kept.new.items) }
 {
-    if !kept[place].rest_on_others(names_stand) {
+    if !kept[place].rest_on(changed) {
         return Ok(());
     }
     renew(alloc, document, kept, place)

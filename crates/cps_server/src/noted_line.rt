@@ -6,17 +6,19 @@ use crate::mentions::line_of;
 use cps_check::{Note, ends_program, notes_within, start_of};
 use cps_final::LineSymbols;
 use cps_list::View;
-use cps_state::Trace;
+use cps_state::{Key, Put, Trace};
 use cps_text::{Line, Name};
 use std::alloc::{AllocError, Global};
 
-/// Whether something assembles a line, which notes it may have, and on what in it the notes of other lines rest.
+/// Whether something assembles a line, which notes it may have, and on what in it the notes of other lines rest, and their words.
 pub struct NotedLine {
     pub idle: Idle,
     /// The notes that it may have, by column.
     pub notes: Vec<Note>,
     /// The symbols that it reads, each once.
     pub reads: Vec<Name>,
+    /// The symbols and macros that it gives something to stand for.
+    pub defines: Vec<Key>,
     pub ends_program: bool,
 }
 
@@ -27,10 +29,12 @@ impl Drop for NotedLine {
             idle: _,
             notes,
             reads,
+            defines,
             ends_program: _,
         } = self;
         drop(notes);
         drop(reads);
+        drop(defines);
     }
 }
 
@@ -51,6 +55,7 @@ impl NotedLine {
         let notes = notes_of(alloc, line, trace)?;
         symbols.replace(trace.puts(), trace.reads(), trace.items())?;
         let mut reads = symbols.read().to_vec(alloc)?;
+        let defines = defined_by(alloc, trace.puts())?;
         let ends_program = ends_program(trace);
         if ends_program {
             push_start(&mut reads, session.line(number.saturating_add(1)))?;
@@ -59,6 +64,7 @@ impl NotedLine {
             idle,
             notes,
             reads,
+            defines,
             ends_program,
         })
     }
@@ -69,13 +75,17 @@ impl NotedLine {
             idle: Idle::Never,
             notes: Vec::new(alloc),
             reads: Vec::new(alloc),
+            defines: Vec::new(alloc),
             ends_program: false,
         }
     }
 
     /// Whether another line has to do with notes as this one.
     pub fn is_as(&self, other: &NotedLine) -> bool {
-        self.tells_as(other) && self.ends_program == other.ends_program && self.reads == other.reads
+        self.tells_as(other)
+            && self.ends_program == other.ends_program
+            && self.reads == other.reads
+            && self.defines == other.defines
     }
 
     /// Whether another line may have the same notes, and is idle or not as this one.
@@ -90,6 +100,18 @@ fn notes_of(alloc: Global, line: &[u8], trace: &Trace) -> Result<Vec<Note>, Allo
         return Ok(Vec::new(alloc));
     }
     notes_within(alloc, line, trace)
+}
+
+/// The symbols and macros among the keys that a line puts.
+fn defined_by(alloc: Global, puts: &[Put]) -> Result<Vec<Key>, AllocError> {
+    let mut keys = Vec::new(alloc);
+    for put in puts {
+        match put.key {
+            Key::Label(_) | Key::Setting(_) | Key::Macro(_) => keys.push(put.key)?,
+            _ => {}
+        }
+    }
+    Ok(keys)
 }
 
 /// Appends the symbol that a line names where execution begins, if it is none that the line reads.

@@ -13,8 +13,8 @@ pub struct TouchedLines {
     pub count: usize,
     /// Which others were made anew.
     pub redone: Redone,
-    /// Whether the lines that came define what those defined that gave way, in the same order.
-    pub names_stand: bool,
+    /// Whether the lines that came put in pass one what those put that gave way, line by line.
+    pub puts_stand: bool,
 }
 
 impl TouchedLines {
