@@ -129,6 +129,43 @@ def check_makers(root, texts):
             raise Fault(f"no digits of the word {word.get('id')} lead to line {line}, which has the code {code}")
 
 
+def check_codes(root, texts):
+    """A code is shifted by as many digits as its word has before it, where these are the codes of the rows before it. The operand of a later row stands in its statement."""
+    section = next(section for section in root.iter() if local(section) == "section" and section.get("id") == "listing")
+    shown = [element for element in section.iter() if local(element) in ("div", "summary") and any(local(inner) == "span" for inner in element)]
+    rows = [row for row in texts["listing"].split("\n") if row]
+    if shown and local(shown[-1]) != "div" or len(shown) != len(rows):
+        raise Fault(f"{len(shown)} rows are shown of {len(rows)}")
+    before, words = {}, {row.split(" ", 1)[0]: row.split(" ", 1)[1] for row in texts["binary"].split("\n")[1:] if " " in row}
+    statement = ""
+    for element, row in zip(shown, rows):
+        address, code, text = row[9:15].strip(), row[16:37].strip(), row[44:]
+        statement = text or statement
+        shift = next((int(part.get("class")[1:]) for part in element.iter() if re.fullmatch(r"s\d+", part.get("class") or "")), 0)
+        note = next((part.text or "" for part in element if local(part) == "small" and part.get("class") == "o"), "")
+        if statement[len(note) - len(note.lstrip()) :][: len(note.strip())] != note.strip() or text and note:
+            raise Fault(f"the operand {note!r} doesn't stand in {statement!r}")
+        if not text and code and address and not note and re.match(r".? ?(\S+)? +(VFD|CON|DATA)\b", statement, re.I):
+            raise Fault(f"no operand is told of the row {row!r}")
+        if not address or not code or " " in code:
+            continue
+        so_far = before.setdefault(address, "")
+        before[address] += code
+        if so_far and len(code) in (5, 10) and words.get(address, "").startswith(before[address]) and len(so_far) % 5 == 0 and shift != len(so_far):
+            raise Fault(f"the code {code} at {address} stands behind {shift} digits, and its word has {len(so_far)} before it")
+
+
+def check_meant(root):
+    """What is meant is a part of a row that has a flag, or of one behind which such a row of its statement comes."""
+    for parent in root.iter():
+        rows = list(parent)
+        for at, row in enumerate(rows):
+            if any(part.get("class") == "u" for part in row.iter()) and local(row) in ("div", "summary") and any(local(inner) == "span" for inner in row):
+                later = [other for other in rows[at:] if local(other) in ("div", "summary")]
+                if not any(other.get("class") == "bad" for other in later):
+                    raise Fault(f"something is meant in {said(row)!r}, which has no flag")
+
+
 def check_page(page, texts, causes):
     """Ends with a fault where a page isn't one of these texts."""
     try:
@@ -140,4 +177,6 @@ def check_page(page, texts, causes):
     check_sections(page, root, texts)
     check_links(root, texts)
     check_makers(root, texts)
+    check_codes(root, texts)
+    check_meant(root)
     check_notes(root, texts, causes)

@@ -1,6 +1,6 @@
 -- Markup as it is written: HTML that is XML too. From HTML's rules for text, elements and attributes.
 use Prim.Native.Char.{code}
-use Rattle.std.specs.Prelude.{ℕ, Bool, true, false, ◌==◌, List, [], ◌∷◌, ◌++◌, flat_map, codes, if◌then◌else◌}
+use Rattle.std.specs.Prelude.{ℕ, Bool, true, false, ◌==◌, List, [], ◌∷◌, ◌++◌, flat_map, codes, decimal, if◌then◌else◌}
 use Rattle.cps_markup.specs.declared.attribute.Attribute.{Attribute as CodeAttribute}
 use Rattle.cps_markup.specs.declared.attribute.Attribute.TheVariants as made
 use Rattle.cps_markup.specs.declared.place.Place.{Place}
@@ -11,13 +11,16 @@ use Rattle.cps_markup.specs.Places.{place_text, style_name}
 
 -- ---- what markup is
 
--- an element is a place, or leads to one; it has a style, or a text that explains it; or it is unfolded at first
+-- an element is a place, or leads to one; it has a style, or a text that explains it; or it is unfolded at first; or it is shifted by so many digits, or
+-- has so many rows
 pub data Attribute : Type 0 where
   identifier : Place → Attribute
   target : Place → Attribute
   styled : Style → Attribute
   titled : List ℕ → Attribute
   unfolded : Attribute
+  shifted : ℕ → Attribute
+  counted : ℕ → Attribute
 
 -- an attribute of the code
 abbrev pub attribute_of : CodeAttribute → Attribute
@@ -25,6 +28,7 @@ attribute_of (made.Identifier place) = identifier place
 attribute_of (made.Styled style) = styled style
 attribute_of (made.Titled words) = titled words.now
 attribute_of made.Unfolded = unfolded
+attribute_of (made.Counted rows) = counted rows
 
 -- text, and what is behind it; an element with what is inside of it, and what is behind it
 pub data Markup : Type 0 where
@@ -63,6 +67,8 @@ attribute_name (target place) = codes " href=\"#"
 attribute_name (styled style) = codes " class=\""
 attribute_name (titled words) = codes " title=\""
 attribute_name unfolded = codes " open=\""
+attribute_name (shifted digits) = codes " class=\"s"
+attribute_name (counted rows) = codes " style=\"--n:"
 
 abbrev pub attribute_value : Attribute → List ℕ
 attribute_value (identifier place) = place_text place
@@ -70,6 +76,8 @@ attribute_value (target place) = place_text place
 attribute_value (styled style) = style_name style
 attribute_value (titled words) = words
 attribute_value unfolded = []
+attribute_value (shifted digits) = decimal digits
+attribute_value (counted rows) = decimal rows
 
 -- a value is quoted
 abbrev pub attribute_text : Attribute → List ℕ

@@ -1,9 +1,9 @@
 //! The begins and ends of elements.
 ghost use Rattle.std.specs.Prelude.{◌≡◌, [], ◌∷◌, ◌++◌, OnOk, flat_map, map};
-ghost use Rattle.cps_markup.specs.Markup.{attribute_name, attribute_of, attribute_text, attribute_value, closing, escaped, opening, identifier, styled, target};
+ghost use Rattle.cps_markup.specs.Markup.{attribute_name, attribute_of, attribute_text, attribute_value, closing, escaped, opening, identifier, shifted, styled, target};
 
 use crate::escaping::push_text;
-use crate::place::{Place, push_place};
+use crate::place::{Place, push_number, push_place};
 use crate::style::Style;
 use crate::tag::Tag;
 use std::alloc::AllocError;
@@ -16,6 +16,8 @@ pub enum Attribute<'a> {
     Titled(&'a [u8]),
     /// Of rows that can be folded: they aren't at first.
     Unfolded,
+    /// Of lines: they have so many rows.
+    Counted(u32),
 }
 
 impl Attribute<'_> {
@@ -28,6 +30,7 @@ impl Attribute<'_> {
             Attribute::Styled(_) => b" class=\"",
             Attribute::Titled(_) => b" title=\"",
             Attribute::Unfolded => b" open=\"",
+            Attribute::Counted(_) => b" style=\"--n:",
         }
     }
 
@@ -39,6 +42,7 @@ impl Attribute<'_> {
             Attribute::Styled(style) => push_text(page, style.name()),
             Attribute::Titled(words) => push_text(page, words),
             Attribute::Unfolded => Ok(()),
+            Attribute::Counted(rows) => push_number(page, rows),
         }
     }
 
@@ -98,6 +102,10 @@ fn part_opening(style: Style) -> &'static [u8]
         Style::Cause => b"<i class=\"c\">",
         Style::Table => b"<i class=\"t\">",
         Style::Block => b"<i class=\"b\">",
+        Style::Meant => b"<i class=\"u\">",
+        Style::Operand => b"<i class=\"o\">",
+        Style::Run => b"<i class=\"run\">",
+        Style::PeripheralRun => b"<i class=\"run pp\">",
     }
 }
 
@@ -107,6 +115,16 @@ pub fn push_link_opening(page: &mut Vec<u8>, place: Place) -> Result<(), AllocEr
 {
     page.extend_from_slice(b"<a href=\"#")?;
     push_place(page, place)?;
+    page.extend_from_slice(b"\">")?;
+    Ok(())
+}
+
+/// Appends the begin of a part that stands so many digits further right.
+pub fn push_shift_opening(page: &mut Vec<u8>, digits: u8) -> Result<(), AllocError>
+    ensures { OnOk result (page.new.items ≡ page.old.items ++ opening Tag.Part (shifted digits ∷ [])) }
+{
+    page.extend_from_slice(b"<i class=\"s")?;
+    push_number(page, u32::from(digits))?;
     page.extend_from_slice(b"\">")?;
     Ok(())
 }

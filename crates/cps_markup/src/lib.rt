@@ -7,6 +7,7 @@
 //! - `line_fields.rt`: the fields of a line, as they are painted
 //! - `line_look.rt`: how the rows of a line look
 //! - `link.rt`: links, each of which leads somewhere
+//! - `meant_columns.rt`: what is meant in a line
 //! - `operand_style.rt`: how the operands of an instruction look
 //! - `painting.rt`: how rows are painted
 //! - `place.rt`: what a link leads to
@@ -26,6 +27,7 @@ mod escaping_laws;
 mod line_fields;
 mod line_look;
 mod link;
+mod meant_columns;
 mod operand_style;
 mod painting;
 mod place;
@@ -41,14 +43,16 @@ pub use attribute::{Attribute, push_closing, push_opening};
 pub use digit_lines::{DigitLines, MadeBits};
 pub use escaping::push_text;
 pub use escaping_laws::{a_text_is_read_back, no_text_is_markup};
+pub use line_fields::LineFields;
 pub use line_look::LineLook;
 pub use link::{push_note, push_note_at};
+pub use meant_columns::MeantColumns;
 pub use painting::has_code;
 pub use place::{PageSection, Place};
 pub use place_laws::identifiers_differ;
 pub use row_form::RowForm;
-pub use rows::{push_group, push_rows, row_length};
-pub use stretch::{ShownRow, push_row};
+pub use rows::{push_group, push_noted_group, push_rows, row_length};
+pub use stretch::{ShownRow, octal_in, push_row};
 pub use style::Style;
 pub use tag::Tag;
 pub use targets::{Entry, Targets, WordEntry, is_among};

@@ -33,7 +33,11 @@ impl LineFields {
     pub fn of(line: &[u8]) -> LineFields {
         let begin = blanks_end(line, 0);
         let location_end = if begin < 2 { word_end(line, begin) } else { 0 };
-        let operation = blanks_end(line, location_end);
+        let operation = if location_end == 0 {
+            begin
+        } else {
+            blanks_end(line, location_end)
+        };
         let operation_end = word_end(line, operation);
         let operands = blanks_end(line, operation_end);
         LineFields {

@@ -3,10 +3,11 @@ ghost use Rattle.std.specs.Prelude.{◌≤◌, length};
 
 use crate::line_fields::behind;
 use crate::line_look::LineLook;
+use crate::meant_columns::MeantColumns;
 use crate::operand_style::{operand_style, register_place};
 use crate::place::{PageSection, Place};
 use crate::row_form::RowForm;
-use crate::stretch::{BEFORE_LINE, Paint, PaintedRow, Stretch};
+use crate::stretch::{BEFORE_CODE, BEFORE_LINE, BEFORE_NUMBER, Paint, PaintedRow, Stretch};
 use crate::style::Style;
 use crate::targets::Targets;
 use cps_text::Name;
@@ -16,12 +17,8 @@ const BEFORE_VALUE: usize = 9;
 
 const BEFORE_LINES: usize = 30;
 
-/// The columns of the listing before the address, the code, the number and the line.
+/// The columns of the listing before the address.
 const BEFORE_ADDRESS: usize = 9;
-
-const BEFORE_CODE: usize = 16;
-
-const BEFORE_NUMBER: usize = 37;
 
 /// The stretch of a row that begins behind so many of its characters.
 pub fn stretch_at<'a>(targets: &Targets, painted: &PaintedRow<'a>, before: usize) -> Stretch<'a> {
@@ -128,7 +125,8 @@ fn symbol_stretch<'a>(row: &[u8], before: usize) -> Stretch<'a> {
 /// The flags, the address, the code, the number and the line.
 fn listing_stretch<'a>(targets: &Targets, painted: &PaintedRow<'a>, before: usize) -> Stretch<'a> {
     if before >= BEFORE_LINE {
-        return line_stretch(painted, before - BEFORE_LINE);
+        let passed = before - BEFORE_LINE;
+        return meant_stretch(line_stretch(painted, passed), painted.meant, passed);
     }
     let rest = behind(painted.text, before);
     let blanks = blank_length(rest);
@@ -250,6 +248,46 @@ fn line_stretch<'a>(painted: &PaintedRow<'a>, before: usize) -> Stretch<'a> {
     word_in_line(painted, rest, before)
 }
 
+/// A stretch of a line behind so many of its characters: where it is meant, up to the end of that, with a wavy line; else up to where that begins.
+/// A link is never cut.
+fn meant_stretch<'a>(stretch: Stretch<'a>, meant: &[MeantColumns], before: usize) -> Stretch<'a> {
+    let mut width = stretch.width;
+    for columns in meant {
+        if columns.has(before) {
+            return Stretch {
+                width: cut(stretch, columns.behind.saturating_sub(before)),
+                paint: meant_paint(stretch.paint),
+            };
+        }
+        if before < columns.before {
+            width = width.min(cut(stretch, columns.before - before));
+        }
+    }
+    Stretch {
+        width,
+        paint: stretch.paint,
+    }
+}
+
+/// The width of a stretch that is cut to so many characters, if it isn't a link.
+fn cut(stretch: Stretch<'_>, width: usize) -> usize {
+    match stretch.paint {
+        Paint::Plain | Paint::Styled(_) | Paint::Titled(_) => stretch.width.min(width),
+        _ => stretch.width,
+    }
+}
+
+/// How a part is shown that is meant.
+fn meant_paint<'a>(paint: Paint<'a>) -> Paint<'a> {
+    match paint {
+        Paint::Plain | Paint::Styled(_) | Paint::Titled(_) => Paint::Styled(Style::Meant),
+        Paint::Linked(place) | Paint::StyledLink(_, place) => {
+            Paint::StyledLink(Style::Meant, place)
+        }
+        Paint::Name | Paint::StyledName(_) => Paint::StyledName(Style::Meant),
+    }
+}
+
 /// A word of a line before its comment.
 fn word_in_line<'a>(painted: &PaintedRow<'a>, rest: &[u8], before: usize) -> Stretch<'a> {
     if before < painted.fields.location_end {
@@ -262,7 +300,12 @@ fn word_in_line<'a>(painted: &PaintedRow<'a>, rest: &[u8], before: usize) -> Str
     if let Some(block) = block_in(painted, rest, before) {
         return block;
     }
-    hued(name_stretch(rest), painted, rest, before)
+    let stretch = name_stretch(rest);
+    let word = match stretch.paint {
+        Paint::Name => rest.split_at(stretch.width.min(rest.len())).0,
+        _ => &[],
+    };
+    hued(stretch, painted, word, before)
 }
 
 /// The name of a block, which USE has as its operand, leads to the block.
@@ -318,15 +361,15 @@ fn literal_place(painted: &PaintedRow<'_>, word: &[u8]) -> Option<Place> {
     Some(Place::Word(address))
 }
 
-/// A part of the operands that looks as the digits of the code that it makes.
+/// A part of the operands that begins with a word, if it is one, and that looks as the digits of the code that it makes.
 fn hued<'a>(
     stretch: Stretch<'a>,
     painted: &PaintedRow<'a>,
-    rest: &[u8],
+    word: &[u8],
     before: usize,
 ) -> Stretch<'a> {
-    let word = rest.split_at(symbol_length(rest)).0;
     if let Some(place) = literal_place(painted, word) {
+        let rest = behind(behind(painted.text, BEFORE_LINE), before);
         let left = painted.fields.operands_end.saturating_sub(before);
         return Stretch {
             width: literal_length(painted.form, rest.split_at(left.min(rest.len())).0),

@@ -78,7 +78,7 @@ fn push_block(page: &mut Vec<u8>, name: Name) -> Result<(), AllocError>
 }
 
 /// Appends a number. No digit is written by name.
-fn push_number(page: &mut Vec<u8>, number: u32) -> Result<(), AllocError>
+pub fn push_number(page: &mut Vec<u8>, number: u32) -> Result<(), AllocError>
     ensures { OnOk result (page.new.items ≡ page.old.items ++ escaped (decimal number)) }
 {
     page.extend_from_slice(Buffer::new().format(number).as_bytes())?;

@@ -4,7 +4,6 @@ ghost use Rattle.cps_markup.specs.Links.{Leads};
 ghost use Rattle.cps_markup.specs.Code.Adding.{Adds};
 
 use crate::attribute::{push_closing, push_place_opening};
-use crate::line_look::LineLook;
 use crate::place::{PageSection, Place};
 use crate::stretch::{ShownRow, push_row};
 use crate::tag::Tag;
@@ -28,6 +27,21 @@ pub fn push_group(
     Ok(())
 }
 
+/// Appends a row of the text of a section, which is a place, with a note behind it, if that isn't empty.
+pub fn push_noted_group(
+    page: &mut Vec<u8>,
+    targets: &Targets,
+    place: Place,
+    shown: &ShownRow<'_>,
+) -> Result<(), AllocError>
+    ensures { OnOk result (Adds (Leads targets.now) shown.now.text.now (place ∷ []) page.old.items page.new.items) }
+{
+    push_place_opening(page, place)?;
+    push_row(page, targets, shown)?;
+    push_closing(page, Tag::Row)?;
+    Ok(())
+}
+
 /// Appends rows of the text of a section, each with its line feed.
 pub fn push_rows(
     page: &mut Vec<u8>,
@@ -40,16 +54,7 @@ pub fn push_rows(
     let mut rest = rows;
     while !rest.is_empty() {
         let (row, behind) = rest.split_at(row_length(rest));
-        let shown = ShownRow {
-            section,
-            text: row,
-            form: None,
-            begins_word: false,
-            look: LineLook::Plain,
-            note: b"",
-            is_summary: false,
-        };
-        push_row(page, targets, &shown)?;
+        push_row(page, targets, &ShownRow::of(section, row))?;
         rest = behind;
     }
     Ok(())

@@ -4,7 +4,7 @@ ghost use Rattle.cps_markup.specs.Links.{Leads};
 ghost use Rattle.cps_markup.specs.Markup.{opening};
 ghost use Rattle.cps_markup.specs.Code.Adding.{Adds, front_attributes, row_attributes, row_tag};
 
-use crate::attribute::push_closing;
+use crate::attribute::{push_closing, push_shift_opening};
 use crate::escaping::push_text;
 use crate::line_fields::LineFields;
 use crate::line_look::LineLook;
@@ -12,6 +12,7 @@ use crate::link::{
     push_link, push_name, push_note, push_plain, push_styled, push_styled_link, push_styled_name,
     push_titled,
 };
+use crate::meant_columns::MeantColumns;
 use crate::painting::{has_address, stretch_at};
 use crate::place::{PageSection, Place};
 use crate::row_form::RowForm;
@@ -22,6 +23,13 @@ use std::alloc::AllocError;
 
 /// The columns of the listing before the line.
 pub const BEFORE_LINE: usize = 44;
+
+/// Those before its code, how many a code has, and those before the number.
+pub const BEFORE_CODE: usize = 16;
+
+const CODE_COLUMNS: usize = BEFORE_NUMBER - BEFORE_CODE;
+
+pub const BEFORE_NUMBER: usize = 37;
 
 /// How a part of a row is shown.
 #[derive(Clone, Copy)]
@@ -55,10 +63,35 @@ pub struct ShownRow<'a> {
     /// Whether its address is the first of its kind, with a code or without one.
     pub begins_word: bool,
     pub look: LineLook,
-    /// What is told behind it, perhaps nothing.
+    /// How many digits of its word stand before its code.
+    pub shift: u8,
+    /// What is meant in its line by causes of its flags.
+    pub meant: &'a [MeantColumns],
+    /// What is told behind it, perhaps nothing, and how that looks.
     pub note: &'a [u8],
+    pub note_style: Style,
     /// Whether it stands for rows that can be folded.
     pub is_summary: bool,
+}
+
+impl<'a> ShownRow<'a> {
+    /// A row of a section, with its line feed, of which nothing more is known.
+    pub fn of(section: PageSection, text: &'a [u8]) -> ShownRow<'a>
+        ensures { result.text.now ≡ text.now }
+    {
+        ShownRow {
+            section,
+            text,
+            form: None,
+            begins_word: false,
+            look: LineLook::Plain,
+            shift: 0,
+            meant: &[],
+            note: b"",
+            note_style: Style::Grey,
+            is_summary: false,
+        }
+    }
 }
 
 /// A row that is painted.
@@ -70,6 +103,8 @@ pub struct PaintedRow<'a> {
     pub form: Option<RowForm<'a>>,
     pub begins_word: bool,
     pub look: LineLook,
+    pub shift: u8,
+    pub meant: &'a [MeantColumns],
     /// The fields of its line, in the listing.
     pub fields: LineFields,
     /// In the binary text by each digit of its word the line that made it.
@@ -87,7 +122,7 @@ pub fn push_row(
     let (text, feed) = shown.text.split_at(text_length(shown.text));
     push_row_opening(page, shown.is_summary, is_flagged(shown.section, text))?;
     push_columns(page, targets, shown, text)?;
-    push_row_note(page, targets, shown.note)?;
+    push_row_note(page, targets, shown.note_style, shown.note)?;
     push_closing(page, row_tag(shown.is_summary))?;
     push_text(page, feed)?;
     Ok(())
@@ -116,13 +151,18 @@ fn row_opening(is_summary: bool, is_flagged: bool) -> &'static [u8]
 }
 
 /// What is told behind a row, if something is.
-fn push_row_note(page: &mut Vec<u8>, targets: &Targets, words: &[u8]) -> Result<(), AllocError>
+fn push_row_note(
+    page: &mut Vec<u8>,
+    targets: &Targets,
+    style: Style,
+    words: &[u8],
+) -> Result<(), AllocError>
     ensures { OnOk result (Adds (Leads targets.now) [] [] page.old.items page.new.items) }
 {
     if words.is_empty() {
         return Ok(());
     }
-    push_note(page, targets, Style::Grey, words)
+    push_note(page, targets, style, words)
 }
 
 fn row_tag(is_summary: bool) -> Tag
@@ -163,6 +203,8 @@ fn push_columns(
         form: shown.form,
         begins_word: shown.begins_word,
         look: shown.look,
+        shift: shown.shift,
+        meant: shown.meant,
         fields: fields_in(shown.section, rest),
         makers: makers_in(targets, shown.section, text),
     };
@@ -188,7 +230,7 @@ fn makers_in<'a>(targets: &'a Targets, section: PageSection, text: &[u8]) -> &'a
 }
 
 /// The number that a text begins with, in octal digits.
-fn octal_in(text: &[u8]) -> u32 {
+pub fn octal_in(text: &[u8]) -> u32 {
     let mut number: u32 = 0;
     for digit in text {
         match digit {
@@ -233,8 +275,55 @@ fn push_full_front(
     ensures { OnOk result (Adds (Leads targets.now) front.now [] page.old.items page.new.items) }
 {
     push_front_opening(page, has_stripe(painted))?;
-    push_painted(page, targets, painted, 0, front)?;
+    push_words(page, targets, painted, front)?;
     push_closing(page, Tag::Front)?;
+    Ok(())
+}
+
+/// The words before the line, of which the code stands where it stands in its word.
+fn push_words(
+    page: &mut Vec<u8>,
+    targets: &Targets,
+    painted: &PaintedRow<'_>,
+    front: &[u8],
+) -> Result<(), AllocError>
+    ensures { OnOk result (Adds (Leads targets.now) front.now [] page.old.items page.new.items) }
+{
+    if painted.shift == 0 {
+        push_painted(page, targets, painted, 0, front)
+    } else {
+        push_with_shift(page, targets, painted, front)
+    }
+}
+
+fn push_with_shift(
+    page: &mut Vec<u8>,
+    targets: &Targets,
+    painted: &PaintedRow<'_>,
+    front: &[u8],
+) -> Result<(), AllocError>
+    ensures { OnOk result (Adds (Leads targets.now) front.now [] page.old.items page.new.items) }
+{
+    let (begin, rest) = front.split_at(BEFORE_CODE.min(front.len()));
+    push_painted(page, targets, painted, 0, begin)?;
+    let (code, end) = rest.split_at(CODE_COLUMNS.min(rest.len()));
+    push_shifted(page, targets, painted, code)?;
+    push_painted(page, targets, painted, BEFORE_NUMBER, end)?;
+    Ok(())
+}
+
+/// The columns of a code, in an element that stands further right.
+fn push_shifted(
+    page: &mut Vec<u8>,
+    targets: &Targets,
+    painted: &PaintedRow<'_>,
+    code: &[u8],
+) -> Result<(), AllocError>
+    ensures { OnOk result (Adds (Leads targets.now) code.now [] page.old.items page.new.items) }
+{
+    push_shift_opening(page, painted.shift)?;
+    push_painted(page, targets, painted, BEFORE_CODE, code)?;
+    push_closing(page, Tag::Part)?;
     Ok(())
 }
 

@@ -26,6 +26,14 @@ pub enum Style {
     Table,
     /// What stands before the source, in a named block.
     Block,
+    /// What a cause means.
+    Meant,
+    /// The operand of a later row.
+    Operand,
+    /// Lines of a central processor's listing.
+    Run,
+    /// Lines of a peripheral processor's listing.
+    PeripheralRun,
 }
 
 impl Style {
@@ -45,6 +53,10 @@ impl Style {
             Style::Cause => b"c",
             Style::Table => b"t",
             Style::Block => b"b",
+            Style::Meant => b"u",
+            Style::Operand => b"o",
+            Style::Run => b"run",
+            Style::PeripheralRun => b"run pp",
         }
     }
 }

@@ -2,38 +2,59 @@
 
 use cps_batch::Source;
 use cps_cause::{
-    Card, Diagnostic, LinesAbove, Origin, Places, explain, explain_end, line_of_opener,
+    Card, Columns, Diagnostic, LinesAbove, Origin, Places, explain, explain_end, line_of_opener,
 };
 use cps_check::KnownPlaces;
 use cps_expr::Radix;
 use cps_final::Finals;
 use cps_list::{View, push_decimal};
-use cps_page::Cause;
+use cps_page::{Cause, MeantColumns};
 use cps_state::{Flags, Shared, Trace};
 use cps_text::Line;
 use std::alloc::{AllocError, Global};
+
+/// Causes of flags, and what each means in its statement.
+#[derive(Drop)]
+pub struct ToldCauses {
+    pub told: Vec<Cause>,
+    pub meant: Vec<MeantColumns>,
+}
+
+impl ToldCauses {
+    fn add(&mut self, cause: Cause, columns: Columns) -> Result<(), AllocError> {
+        self.meant.push(MeantColumns {
+            before: columns.first.saturating_sub(1),
+            behind: columns.last,
+        })?;
+        self.told.push(cause)?;
+        Ok(())
+    }
+}
 
 /// The causes of all flags, by their lines; the last is that of a range that is open at the end. A source without a flag isn't gone through.
 pub fn list_causes(
     alloc: Global,
     source: &Source,
     traces: &[Trace],
-) -> Result<Vec<Cause>, AllocError> {
-    let mut causes = Vec::new(alloc);
+) -> Result<ToldCauses, AllocError> {
+    let mut causes = ToldCauses {
+        told: Vec::new(alloc),
+        meant: Vec::new(alloc),
+    };
     if source.flagged_lines() == 0 {
         return Ok(causes);
     }
-    list_of_lines(source, traces, &mut causes)?;
+    list_of_lines(alloc, source, traces, &mut causes)?;
     list_of_end(alloc, source, traces, &mut causes)?;
     Ok(causes)
 }
 
 fn list_of_lines(
+    alloc: Global,
     source: &Source,
     traces: &[Trace],
-    causes: &mut Vec<Cause>,
+    causes: &mut ToldCauses,
 ) -> Result<(), AllocError> {
-    let alloc = *causes.allocator();
     let hashing = source.finals().hashing();
     let mut places = KnownPlaces::of(alloc, hashing, source.lines(), traces)?;
     let mut number: u32 = 0;
@@ -76,12 +97,12 @@ impl FlaggedLine<'_> {
         alloc: Global,
         finals: &Finals,
         places: &P,
-        causes: &mut Vec<Cause>,
+        causes: &mut ToldCauses,
     ) -> Result<(), AllocError> {
         let found = explain(alloc, self.line, self.trace, finals)?;
         for diagnostic in &found {
             let cause = cause_of(alloc, self.number, self.line.bytes(), diagnostic, places)?;
-            causes.push(cause)?;
+            causes.add(cause, diagnostic.within)?;
         }
         Ok(())
     }
@@ -133,7 +154,7 @@ fn list_of_end(
     alloc: Global,
     source: &Source,
     traces: &[Trace],
-    causes: &mut Vec<Cause>,
+    causes: &mut ToldCauses,
 ) -> Result<(), AllocError> {
     let Some(cause) = explain_end(source.finals())? else {
         return Ok(());
@@ -156,6 +177,9 @@ fn list_of_end(
     };
     let behind = source.count().saturating_add(1);
     let places = LinesAbove { traces };
-    causes.push(cause_of(alloc, behind, line.bytes(), &end, &places)?)?;
+    causes.add(
+        cause_of(alloc, behind, line.bytes(), &end, &places)?,
+        columns,
+    )?;
     Ok(())
 }

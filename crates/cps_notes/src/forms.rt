@@ -1,11 +1,10 @@
 //! The forms of the instructions that occur.
 
 use crate::manual_rows::push_forms;
-use cps_cause::Card;
 use cps_expr::Machine;
 use cps_final::{OctalDigits, Row};
 use cps_list::View;
-use cps_page::{Form, FormUse};
+use cps_page::{Form, code_fields};
 use cps_state::Hashing;
 use cps_text::Name;
 use std::alloc::{AllocError, Global};
@@ -20,7 +19,6 @@ pub struct FormLister {
     forms: Vec<Form>,
     /// Where those of an operation stand.
     known: HashMap<Name, FormRange, Hashing>,
-    uses: Vec<FormUse>,
 }
 
 /// Where the forms of an operation stand: behind so many, and up to so many.
@@ -38,48 +36,39 @@ impl FormLister {
             machine: view.finals().machine(),
             forms: Vec::new(alloc),
             known: HashMap::with_hasher(alloc, view.finals().hashing()),
-            uses: Vec::new(alloc),
         }
     }
 
-    /// The forms, and which row has which.
-    pub fn into_parts(self) -> (Vec<Form>, Vec<FormUse>) {
+    /// The forms.
+    pub fn into_forms(self) -> Vec<Form> {
         let FormLister {
             alloc: _,
             machine: _,
             forms,
             known,
-            uses,
         } = self;
         drop(known);
-        (forms, uses)
+        forms
     }
 
-    /// Takes all lines.
-    pub fn take_lines<V: View>(&mut self, view: &V) -> Result<(), AllocError> {
-        for before in 0..view.count() {
-            let number = before.saturating_add(1);
-            if let (Some(line), Some(outcome)) = (view.line(number), view.outcome(number)) {
-                self.take_line(number, line.bytes(), outcome.rows())?;
-            }
+    /// Takes the code of a statement's row. It gives how many forms stand before that of its instruction, if it has one.
+    pub fn take(
+        &mut self,
+        statement: &[u8],
+        row: &Row,
+        digits: OctalDigits,
+    ) -> Result<Option<u32>, AllocError> {
+        if row.is_later {
+            return Ok(None);
         }
-        Ok(())
-    }
-
-    fn take_line(&mut self, number: u32, line: &[u8], rows: &[Row]) -> Result<(), AllocError> {
-        let mut before: u32 = 0;
-        for row in rows {
-            if let Some(form) = self.form_of(line, row)? {
-                self.count(form);
-                self.uses.push(FormUse {
-                    line: number,
-                    row: before,
-                    form,
-                })?;
-            }
-            before = before.saturating_add(1);
+        let form = match (self.machine, digits.count) {
+            (Machine::Cp, 5 | 10) | (Machine::Pp, 4) => self.find(statement, digits)?,
+            _ => None,
+        };
+        if let Some(form) = form {
+            self.count(form);
         }
-        Ok(())
+        Ok(form)
     }
 
     /// One more occurrence of a form.
@@ -89,29 +78,9 @@ impl FormLister {
         }
     }
 
-    /// How many forms stand before that of a row, None where it has none.
-    fn form_of(&mut self, line: &[u8], row: &Row) -> Result<Option<u32>, AllocError> {
-        if row.is_later {
-            return Ok(None);
-        }
-        let Some(digits) = row.code.digits() else {
-            return Ok(None);
-        };
-        let statement = if row.depth == 0 {
-            line
-        } else {
-            row.text.as_slice()
-        };
-        match (self.machine, digits.count) {
-            (Machine::Cp, 5 | 10) | (Machine::Pp, 4) => self.find(statement, digits),
-            _ => Ok(None),
-        }
-    }
-
     /// How many forms stand before that of a statement with a code.
     fn find(&mut self, statement: &[u8], code: OctalDigits) -> Result<Option<u32>, AllocError> {
-        let card = Card::of(statement);
-        let operation = card.operation_text();
+        let operation = operation_in(statement);
         let Some(name) = Name::read(operation) else {
             return Ok(None);
         };
@@ -167,6 +136,13 @@ impl FormLister {
     }
 }
 
+/// The operation of a statement that has a code.
+fn operation_in(statement: &[u8]) -> &[u8] {
+    let fields = code_fields(statement);
+    let (front, _) = statement.split_at(fields.operation_end.min(statement.len()));
+    front.split_at(fields.operation.min(front.len())).1
+}
+
 /// How many digits of a form's code are no fields.
 fn count_digits(form: &Form) -> usize {
     let mut count: usize = 0;
@@ -189,9 +165,11 @@ fn has_code(form: &Form, code: OctalDigits) -> bool {
     let mut left = code.count;
     for letter in &form.code {
         left = left.saturating_sub(1);
-        let digit = (code.number >> (3 * u32::from(left.min(20)))) % 8;
-        if letter.is_ascii_digit() && u64::from(*letter) != digit + 48 {
-            return false;
+        if letter.is_ascii_digit() {
+            let digit = (code.number >> (3 * u32::from(left.min(20)))) % 8;
+            if u64::from(*letter) != digit + 48 {
+                return false;
+            }
         }
     }
     true

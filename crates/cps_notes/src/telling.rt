@@ -2,7 +2,7 @@
 
 use crate::blocks::list_blocks;
 use crate::causes::list_causes;
-use crate::forms::FormLister;
+use crate::codes::CodeLister;
 use crate::looks::list_looks;
 use cps_batch::Source;
 use cps_page::Beside;
@@ -15,13 +15,14 @@ pub fn tell_beside(alloc: Global, source: &Source, traces: &[Trace]) -> Result<B
     let causes = list_causes(alloc, source, traces)?;
     let blocks = list_blocks(alloc, source, traces)?;
     let looks = list_looks(alloc, traces)?;
-    let mut lister = FormLister::of(alloc, source);
-    lister.take_lines(source)?;
-    let (forms, uses) = lister.into_parts();
+    let mut lister = CodeLister::of(alloc, source);
+    lister.take_lines(source, traces)?;
+    let (forms, codes) = lister.into_parts();
     Ok(Beside {
-        causes,
+        causes: causes.told,
+        meant: causes.meant,
         forms,
-        uses,
+        codes,
         blocks,
         looks,
     })

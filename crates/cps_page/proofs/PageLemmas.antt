@@ -17,18 +17,19 @@ use Rattle.cps_markup.specs.declared.place.Place.{Place}
 use Rattle.cps_markup.specs.declared.place.Place.TheVariants.{Line, Symbol, Word, Block, Section}
 use Rattle.cps_markup.specs.declared.place.PageSection.{PageSection}
 use Rattle.cps_markup.specs.declared.place.PageSection.TheVariants as page
+use Rattle.cps_markup.specs.declared.style.Style.{Style}
 use Rattle.cps_markup.specs.declared.tag.Tag.TheVariants as tag
 use Rattle.cps_markup.specs.declared.targets.Entry.{Entry}
 use Rattle.cps_markup.specs.declared.targets.Targets.{Targets}
 use Rattle.cps_markup.specs.declared.targets.WordEntry.{WordEntry}
 use Rattle.cps_markup.specs.Links.{Leads}
-use Rattle.cps_markup.specs.Markup.{identifier, Link, escaped, written, places, links, opening, closing}
+use Rattle.cps_markup.specs.Markup.{counted, identifier, styled, Link, escaped, written, places, links, opening, closing}
 use Rattle.cps_markup.specs.PlaceLaws.{IsWritten}
 use Rattle.cps_markup.specs.Places.{same_place}
 use Rattle.cps_markup.specs.Code.Adding.{Adds}
-use Rattle.cps_markup.proofs.AddsLemmas.{adds-joined, adds-nothing, all-none}
+use Rattle.cps_markup.proofs.AddsLemmas.{adds-element, adds-joined, adds-nothing, all-none}
 use Rattle.cps_page.specs.Page.{body, title_text, IsPage}
-use Rattle.cps_page.specs.Code.Making.{blocks_among, lines_from, symbols_among, words_among, all_places, AddsSection, AddsSections, AreTargets}
+use Rattle.cps_page.specs.Code.Making.{blocks_among, lines_from, symbols_among, words_among, all_places, AddsLines, AddsSection, AddsSections, AreTargets}
 use Rattle.cps_page.proofs.EntryLemmas.{found-defined}
 use Rattle.cps_page.proofs.PlaceLemmas.{all-once, all-there, all-written}
 
@@ -47,26 +48,15 @@ module _ (P : Link → Type 0) where
   behind-next : {T : Type 0} (xs : List T) (i : ℕ) (x : T) → slice_get xs (i + 1 - 1) ≡ Some x → drop i xs ≡ x ∷ drop (i + 1) xs
   behind-next xs i x is = drop-next xs i x (ap (slice_get xs) (sym (same-place i)) ∙ is) ∙ ap (λ n. x ∷ drop n xs) (sym (next i))
 
-  -- the rows of the next line, and those of the lines after it
-  pub adds-line : (lines : List (List ℕ)) (outcomes : List Outcome) (i : ℕ) (line bytes : List ℕ) (outcome : Outcome) (shown : List Row) (rows old new last : List ℕ)
+  -- the rows of the next line, in front of those of the lines after it
+  line-next : (lines : List (List ℕ)) (outcomes : List Outcome) (i : ℕ) (line bytes : List ℕ) (outcome : Outcome) (shown : List Row) (rows : List ℕ)
       → slice_get lines (i + 1 - 1) ≡ Some line → slice_get outcomes (i + 1 - 1) ≡ Some outcome → bytes ≡ line → shown ≡ outcome.rows → rows ≡ line_rows (i + 1) bytes shown
-      → Adds P rows (Line (i + 1) ∷ []) old new
-      → Adds P (listing_from (i + 1 + 1) (drop (i + 1) lines) (drop (i + 1) outcomes)) (lines_from (i + 1 + 1) (drop (i + 1) lines)) new last
-      → Adds P (listing_from (i + 1) (drop i lines) (drop i outcomes)) (lines_from (i + 1) (drop i lines)) old last
-  adds-line lines outcomes i line bytes outcome shown rows old new last line-is outcome-is same shown-is rows-are a later =
+      → listing_from (i + 1) (drop i lines) (drop i outcomes) ≡ rows ++ listing_from (i + 1 + 1) (drop (i + 1) lines) (drop (i + 1) outcomes)
+  line-next lines outcomes i line bytes outcome shown rows line-is outcome-is same shown-is rows-are =
       let lines-are = behind-next lines i line line-is in
       let outcomes-are = behind-next outcomes i outcome outcome-is in
       let more = listing_from (i + 1 + 1) (drop (i + 1) lines) (drop (i + 1) outcomes) in
-      adds-same _ _ _ _ old last
-      ((λ j. (rows-are ∙ (λ k. line_rows (i + 1) (same k) (shown-is k))) j ++ more) ∙ sym (λ j. listing_from (i + 1) (lines-are j) (outcomes-are j)))
-      (sym (ap (lines_from (i + 1)) lines-are))
-      (adds-joined P rows more (Line (i + 1) ∷ []) (lines_from (i + 1 + 1) (drop (i + 1) lines)) old new last a later)
-
-  pub adds-lines-end : (lines : List (List ℕ)) (outcomes : List Outcome) (i : ℕ) (page : List ℕ) → length lines ≤ i
-      → Adds P (listing_from (i + 1) (drop i lines) (drop i outcomes)) (lines_from (i + 1) (drop i lines)) page page
-  adds-lines-end lines outcomes i page all =
-      let none = drop_all i lines all in
-      adds-same [] _ [] _ page page (sym (ap (λ ls. listing_from (i + 1) ls (drop i outcomes)) none)) (sym (ap (lines_from (i + 1)) none)) (adds-nothing P page)
+      (λ j. listing_from (i + 1) (lines-are j) (outcomes-are j)) ∙ sym (λ j. (rows-are ∙ (λ k. line_rows (i + 1) (same k) (shown-is k))) j ++ more)
 
   -- the row of the next symbol, and those of the symbols after it
   pub adds-symbol : (entries : List Entry) (i n : ℕ) (d : Entry) (rest row behind old new last : List ℕ) → i < length entries → row ≡ take n rest → behind ≡ drop n rest
@@ -102,6 +92,52 @@ module _ (P : Link → Type 0) where
       → Adds P behind p middle last → Adds P rest p old last
   adds-front n rest front behind p old middle last f b a later =
       subst (λ l. Adds P l p old last) ((λ i. f i ++ b i) ∙ take-append-drop n rest) (adds-joined P front behind [] p old middle last a later)
+
+-- ---- runs of lines
+
+module _ (targets : Targets) (assembly : Assembly) where
+  pub lines-none : (i : ℕ) (page : List ℕ) → AddsLines targets assembly i i page page
+  lines-none i page = record { words = []; here = []; added = adds-nothing (Leads targets) page; same_words = refl; same_places = refl }
+
+  pub lines-joined : (i j k : ℕ) (old middle new : List ℕ) → AddsLines targets assembly i j old middle → AddsLines targets assembly j k middle new → AddsLines targets assembly i k old new
+  lines-joined i j k old middle new a b = record {
+    words = a.words ++ b.words;
+    here = a.here ++ b.here;
+    added = adds-joined (Leads targets) a.words b.words a.here b.here old middle new a.added b.added;
+    same_words = a.same_words ∙ ap (λ t. a.words ++ t) b.same_words ∙ sym (append_assoc a.words b.words _);
+    same_places = a.same_places ∙ ap (λ ps. a.here ++ ps) b.same_places ∙ sym (append_assoc a.here b.here _);
+  }
+
+  pub lines-one : (i : ℕ) (line bytes : List ℕ) (outcome : Outcome) (shown : List Row) (rows old new : List ℕ)
+      → slice_get assembly.lines (i + 1 - 1) ≡ Some line → slice_get assembly.outcomes (i + 1 - 1) ≡ Some outcome → bytes ≡ line → shown ≡ outcome.rows → rows ≡ line_rows (i + 1) bytes shown
+      → Adds (Leads targets) rows (Line (i + 1) ∷ []) old new → AddsLines targets assembly i (i + 1) old new
+  lines-one i line bytes outcome shown rows old new line-is outcome-is same shown-is rows-are a = record {
+    words = rows;
+    here = Line (i + 1) ∷ [];
+    added = a;
+    same_words = line-next (Leads targets) assembly.lines assembly.outcomes i line bytes outcome shown rows line-is outcome-is same shown-is rows-are;
+    same_places = ap (lines_from (i + 1)) (behind-next (Leads targets) assembly.lines i line line-is);
+  }
+
+  -- a run, whatever its style is, and however many rows it has
+  pub lines-run : (i j : ℕ) (style : Style) (rows : ℕ) (old middle later new : List ℕ) → middle ≡ old ++ opening tag.Row (styled style ∷ counted rows ∷ [])
+      → AddsLines targets assembly i j middle later → new ≡ later ++ closing tag.Row → AddsLines targets assembly i j old new
+  lines-run i j style rows old middle later new begun a ended = record {
+    words = a.words;
+    here = a.here;
+    added = adds-element (Leads targets) tag.Row (styled style ∷ counted rows ∷ []) a.words a.here old middle later new begun a.added ended (all-none (Leads targets));
+    same_words = a.same_words;
+    same_places = a.same_places;
+  }
+
+  pub lines-all : (j : ℕ) (old new : List ℕ) → length assembly.lines ≤ j → AddsLines targets assembly 0 j old new
+      → Adds (Leads targets) (listing_from 1 assembly.lines assembly.outcomes) (lines_from 1 assembly.lines) old new
+  lines-all j old new all a =
+      let none = drop_all j assembly.lines all in
+      adds-same (Leads targets) a.words _ a.here _ old new
+      (sym (append-nil a.words) ∙ ap (λ t. a.words ++ t) (sym (ap (λ ls. listing_from (j + 1) ls (drop j assembly.outcomes)) none)) ∙ sym a.same_words)
+      (sym (append-nil a.here) ∙ ap (λ ps. a.here ++ ps) (sym (ap (lines_from (j + 1)) none)) ∙ sym a.same_places)
+      a.added
 
 -- ---- a section
 

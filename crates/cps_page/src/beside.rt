@@ -1,5 +1,5 @@
 //! What a page tells beside the texts. No contract says anything of it.
-use cps_markup::LineLook;
+use cps_markup::{LineLook, MeantColumns};
 use cps_text::Name;
 use std::alloc::Global;
 
@@ -29,15 +29,26 @@ pub struct Form {
     pub count: u32,
 }
 
-/// Which form a row of the listing has.
+/// What is told of the code in a row of the listing.
 #[derive(Clone, Copy)]
-pub struct FormUse {
+pub struct CodeNote {
     /// The number of the line, from 1.
     pub line: u32,
     /// How many rows of the line stand before it.
     pub row: u32,
-    /// How many forms stand before it.
-    pub form: u32,
+    /// How many forms stand before that of its instruction, if it has one.
+    pub form: Option<u32>,
+    /// How many digits of its word stand before it.
+    pub shift: u8,
+    /// Of a later row the operand that made it.
+    pub operand: OperandColumns,
+}
+
+/// An operand of a statement: behind so many of its characters, up to so many; none where these are the same.
+#[derive(Clone, Copy)]
+pub struct OperandColumns {
+    pub before: u8,
+    pub behind: u8,
 }
 
 /// What a block is called.
@@ -74,9 +85,11 @@ pub struct Block {
 pub struct Beside {
     /// By their lines.
     pub causes: Vec<Cause>,
+    /// What each of these means in its statement; causes behind these mean nothing there.
+    pub meant: Vec<MeantColumns>,
     pub forms: Vec<Form>,
     /// By their lines and rows.
-    pub uses: Vec<FormUse>,
+    pub codes: Vec<CodeNote>,
     /// By their addresses.
     pub blocks: Vec<Block>,
     /// By the lines; those behind these look plain.
@@ -88,8 +101,9 @@ impl Beside {
     pub fn nothing(alloc: Global) -> Beside {
         Beside {
             causes: Vec::new(alloc),
+            meant: Vec::new(alloc),
             forms: Vec::new(alloc),
-            uses: Vec::new(alloc),
+            codes: Vec::new(alloc),
             blocks: Vec::new(alloc),
             looks: Vec::new(alloc),
         }

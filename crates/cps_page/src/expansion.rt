@@ -10,13 +10,13 @@ use crate::listed_rows::{ListedRows, push_listed_rows};
 use crate::telling::Telling;
 use cps_list::push_decimal;
 use cps_markup::{
-    Attribute, LineLook, PageSection, Place, ShownRow, Tag, Targets, push_closing, push_opening,
-    push_row, row_length,
+    Attribute, LineLook, MeantColumns, PageSection, Place, ShownRow, Style, Tag, Targets,
+    push_closing, push_opening, push_row, row_length,
 };
 use std::alloc::{AllocError, Global};
 
 /// An expansion of more rows is folded at first, unless one has a flag.
-const MOST_UNFOLDED: usize = 40;
+pub const MOST_UNFOLDED: usize = 40;
 
 /// The columns before what tells that a row stands in an expansion, and before the address.
 const BEFORE_PLUS: usize = 42;
@@ -106,7 +106,12 @@ fn push_folded(
     ensures { OnOk result (Adds (Leads targets.now) rows.now.text.now [] page.old.items page.new.items) }
 {
     let (first, rest) = rows.text.split_at(row_length(rows.text));
-    push_summary(alloc, page, targets, first, rest)?;
+    let call = Call {
+        row: first,
+        rest,
+        meant: telling.meant_in(rows.line, first),
+    };
+    push_summary(alloc, page, targets, &call)?;
     let expanded = ListedRows {
         line: rows.line,
         before: 1,
@@ -116,25 +121,33 @@ fn push_folded(
     Ok(())
 }
 
-/// A row that stands for those behind it, with a note that tells how many they are and where they stand.
+/// A row that stands for those behind it, and what is meant in it.
+#[derive(Clone, Copy)]
+struct Call<'a> {
+    row: &'a [u8],
+    rest: &'a [u8],
+    meant: &'a [MeantColumns],
+}
+
+/// The row of a call, with a note that tells how many rows stand behind it and where they stand.
 fn push_summary(
     alloc: Global,
     page: &mut Vec<u8>,
     targets: &Targets,
-    row: &[u8],
-    rest: &[u8],
+    call: &Call<'_>,
 ) -> Result<(), AllocError>
-    ensures { OnOk result (Adds (Leads targets.now) row.now [] page.old.items page.new.items) }
+    ensures { OnOk result (Adds (Leads targets.now) call.now.row.now [] page.old.items page.new.items) }
 {
     let mut note = Vec::new(alloc);
-    push_count(&mut note, rest)?;
-    push_noted(page, targets, row, &note)
+    push_count(&mut note, call.rest)?;
+    push_noted(page, targets, call.row, call.meant, &note)
 }
 
 fn push_noted<'a>(
     page: &mut Vec<u8>,
     targets: &Targets,
     row: &'a [u8],
+    meant: &'a [MeantColumns],
     note: &'a [u8],
 ) -> Result<(), AllocError>
     ensures { OnOk result (Adds (Leads targets.now) row.now [] page.old.items page.new.items) }
@@ -146,7 +159,10 @@ fn push_noted<'a>(
         form,
         begins_word: false,
         look: LineLook::Plain,
+        shift: 0,
+        meant,
         note,
+        note_style: Style::Grey,
         is_summary: true,
     };
     push_row(page, targets, &shown)

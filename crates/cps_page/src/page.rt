@@ -5,12 +5,13 @@ ghost use Rattle.cps_page.specs.Code.Making.{AddsSections, AreTargets};
 ghost use Rattle.cps_page.specs.Page.{IsPage, IsPageOf, title_text};
 
 use crate::beside::{Beside, Block};
+use crate::code_rows::CodeRows;
 use crate::entries::list_entries;
 use crate::frame::{BACK, FRONT, MIDDLE};
 use crate::makers::list_makers;
 use crate::named_blocks::list_names;
 use crate::sections::{
-    push_flag_section, push_instruction_section, push_listing_section, push_memory_section,
+    Words, push_flag_section, push_instruction_section, push_listing_section, push_memory_section,
     push_symbol_section, push_word_section,
 };
 use crate::words::list_words;
@@ -40,12 +41,17 @@ pub fn make_page<V: View>(
 ) -> Result<Vec<u8>, AllocError>
     ensures { IfOk result (λ page. IsPage frame.now.front.now frame.now.middle.now frame.now.back.now (V.assembly view.now) page.items) }
 {
-    let words = make_text(alloc, view, Part::Binary)?;
+    let text = make_text(alloc, view, Part::Binary)?;
+    let rows = CodeRows::of(alloc, view)?;
+    let words = Words {
+        text: &text,
+        rows: &rows,
+    };
     let targets = list_targets(alloc, view, &words, &beside.blocks)?;
     let making = Making {
         targets: &targets,
         beside,
-        words: &words,
+        words,
     };
     let mut page = Vec::new(alloc);
     page.extend_from_slice(frame.front)?;
@@ -86,13 +92,13 @@ fn title_of(program: &Option<Name>) -> &[u8]
 fn list_targets<V: View>(
     alloc: Global,
     view: &V,
-    words: &[u8],
+    words: &Words<'_>,
     blocks: &[Block],
 ) -> Result<Targets, AllocError>
     ensures { IfOk result (AreTargets (V.assembly view.now)) }
 {
     let entries = list_entries(alloc, view)?;
-    let words = list_words(alloc, view, words)?;
+    let words = list_words(alloc, words.rows, words.text)?;
     let blocks = list_names(alloc, blocks)?;
     let makers = list_makers(alloc, view)?;
     Ok(Targets {
@@ -109,8 +115,7 @@ fn list_targets<V: View>(
 struct Making<'a> {
     targets: &'a Targets,
     beside: &'a Beside,
-    /// The binary text.
-    words: &'a [u8],
+    words: Words<'a>,
 }
 
 /// The sections.
@@ -120,7 +125,7 @@ fn push_sections<V: View>(
     view: &V,
     making: &Making<'_>,
 ) -> Result<(), AllocError>
-    requires { making.now.words.now ≡ binary_text (V.assembly view.now) }
+    requires { making.now.words.text.now ≡ binary_text (V.assembly view.now) }
     ensures { OnOk result (AddsSections making.now.targets.now (V.assembly view.now) page.old.items page.new.items) }
 {
     let Making {
@@ -130,7 +135,7 @@ fn push_sections<V: View>(
     } = *making;
     push_memory_section(alloc, page, view, targets, beside)?;
     push_listing_section(alloc, page, view, targets, beside)?;
-    push_word_section(page, targets, words)?;
+    push_word_section(alloc, page, view, targets, &words)?;
     let symbols = make_text(alloc, view, Part::Symbols)?;
     push_symbol_section(page, targets, &symbols)?;
     let flags = make_text(alloc, view, Part::Flags)?;

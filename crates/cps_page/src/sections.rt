@@ -6,17 +6,26 @@ ghost use Rattle.cps_markup.specs.Code.Adding.{Adds};
 ghost use Rattle.cps_page.specs.Code.Making.{AddsListingSection, AddsMemorySection, AddsSection, AddsSymbolSection, AddsWordSection, symbols_among, words_among};
 
 use crate::beside::Beside;
+use crate::code_rows::CodeRows;
 use crate::flags::push_flags;
 use crate::listing::push_listing;
 use crate::summary::push_summary;
 use crate::tables::{push_blocks, push_forms};
 use crate::telling::Telling;
+use crate::word_notes::{WordMakers, fill_note};
 use cps_list::View;
 use cps_markup::{
-    Attribute, PageSection, Place, Tag, Targets, push_closing, push_group, push_opening, push_rows,
-    push_text, row_length,
+    Attribute, LineLook, PageSection, Place, ShownRow, Style, Tag, Targets, octal_in, push_closing,
+    push_group, push_noted_group, push_opening, push_rows, push_text, row_length,
 };
 use std::alloc::{AllocError, Global};
+
+/// The binary text, and the rows of the listing that have codes.
+#[derive(Clone, Copy)]
+pub struct Words<'a> {
+    pub text: &'a [u8],
+    pub rows: &'a CodeRows,
+}
 
 /// The section that tells what the page is of, and where the blocks of the program stand, of which each named one is a place.
 pub fn push_memory_section<V: View>(
@@ -53,17 +62,19 @@ pub fn push_listing_section<V: View>(
     Ok(())
 }
 
-/// The section of the binary text, in which each word to which links can lead is a place.
-pub fn push_word_section(
+/// The section of the binary text, in which each word to which links can lead is a place, with what made it beside it.
+pub fn push_word_section<V: View>(
+    alloc: Global,
     page: &mut Vec<u8>,
+    view: &V,
     targets: &Targets,
-    text: &[u8],
+    words: &Words<'_>,
 ) -> Result<(), AllocError>
-    ensures { OnOk result (AddsWordSection targets.now text.now page.old.items page.new.items) }
+    ensures { OnOk result (AddsWordSection targets.now words.now.text.now page.old.items page.new.items) }
 {
     push_begin(page, PageSection::Words)?;
     push_heading(page, targets, b"Words")?;
-    push_words(page, targets, text)?;
+    push_words(alloc, page, view, targets, words)?;
     push_closing(page, Tag::Section)?;
     Ok(())
 }
@@ -152,31 +163,72 @@ fn length_before(rows: &[u8], name: &[u8]) -> usize
 }
 
 /// The rows of the binary text: one without a word, and one for each word.
-fn push_words(page: &mut Vec<u8>, targets: &Targets, text: &[u8]) -> Result<(), AllocError>
-    ensures { OnOk result (Adds (Leads targets.now) text.now (words_among targets.now.words.items) page.old.items page.new.items) }
+fn push_words<V: View>(
+    alloc: Global,
+    page: &mut Vec<u8>,
+    view: &V,
+    targets: &Targets,
+    words: &Words<'_>,
+) -> Result<(), AllocError>
+    ensures { OnOk result (Adds (Leads targets.now) words.now.text.now (words_among targets.now.words.items) page.old.items page.new.items) }
 {
-    let (first, words) = text.split_at(row_length(text));
+    let (first, rest) = words.text.split_at(row_length(words.text));
     push_rows(page, targets, PageSection::Words, first)?;
-    push_word_rows(page, targets, words)?;
+    let rows = Words {
+        text: rest,
+        rows: words.rows,
+    };
+    push_word_rows(alloc, page, view, targets, &rows)?;
     Ok(())
 }
 
-fn push_word_rows(page: &mut Vec<u8>, targets: &Targets, text: &[u8]) -> Result<(), AllocError>
-    ensures { OnOk result (Adds (Leads targets.now) text.now (words_among targets.now.words.items) page.old.items page.new.items) }
+fn push_word_rows<V: View>(
+    alloc: Global,
+    page: &mut Vec<u8>,
+    view: &V,
+    targets: &Targets,
+    words: &Words<'_>,
+) -> Result<(), AllocError>
+    ensures { OnOk result (Adds (Leads targets.now) words.now.text.now (words_among targets.now.words.items) page.old.items page.new.items) }
 {
-    let mut rest = text;
+    let made = WordMakers {
+        rows: words.rows,
+        makers: &targets.makers,
+    };
+    let mut note = Vec::new(alloc);
+    let mut rest = words.text;
     for word in &targets.words {
         let (row, behind) = rest.split_at(row_length(rest));
-        push_group(
-            page,
-            targets,
-            PageSection::Words,
-            Place::Word(word.digits),
-            row,
-        )?;
+        fill_note(&mut note, view, &made, octal_in(row))?;
+        push_word(page, targets, word.digits, row, &note)?;
         rest = behind;
     }
     push_rows(page, targets, PageSection::Words, rest)
+}
+
+fn push_word<'a>(
+    page: &mut Vec<u8>,
+    targets: &Targets,
+    digits: u32,
+    row: &'a [u8],
+    note: &'a [u8],
+) -> Result<(), AllocError>
+    ensures { OnOk result (Adds (Leads targets.now) row.now (Place.Word digits ∷ []) page.old.items page.new.items) }
+{
+    let form = None;
+    let shown = ShownRow {
+        section: PageSection::Words,
+        text: row,
+        form,
+        begins_word: false,
+        look: LineLook::Plain,
+        shift: 0,
+        meant: &[],
+        note,
+        note_style: Style::Grey,
+        is_summary: false,
+    };
+    push_noted_group(page, targets, Place::Word(digits), &shown)
 }
 
 /// The begin of a section.

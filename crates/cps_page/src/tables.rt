@@ -124,10 +124,14 @@ fn block_row(alloc: Global, memory: &Memory<'_>, block: &Block) -> Result<Vec<u8
     push_octal(&mut row, block.address, ADDRESS_DIGITS)?;
     fill_columns(&mut row, 0, BEFORE_WORDS)?;
     push_decimal(&mut row, block.words)?;
-    row.extend_from_slice(b" words")?;
+    row.extend_from_slice(words_name(block.words))?;
     fill_columns(&mut row, 0, BEFORE_BAR)?;
     push_bar(&mut row, memory, block)?;
     Ok(row)
+}
+
+fn words_name(count: u64) -> &'static [u8] {
+    if count == 1 { b" word" } else { b" words" }
 }
 
 /// Appends a bar of the memory, with the words of a block.

@@ -1,6 +1,6 @@
 //! What is told beside the rows of a text, as these are gone through.
-use crate::beside::{Beside, Cause, FormUse};
-use cps_markup::{LineLook, RowForm, has_code};
+use crate::beside::{Beside, Cause, CodeNote, OperandColumns};
+use cps_markup::{LineLook, MeantColumns, RowForm, has_code};
 
 /// The columns of flags.
 const FLAG_COLUMNS: usize = 8;
@@ -18,7 +18,7 @@ pub struct Telling<'a> {
     beside: &'a Beside,
     /// How many causes are told.
     told: usize,
-    /// How many uses of forms are passed.
+    /// How many notes of codes are passed.
     passed: usize,
     /// The address of the last row that had one, and of the last of these that had a code, None before that.
     address: Option<u32>,
@@ -60,22 +60,40 @@ impl<'a> Telling<'a> {
         }
     }
 
-    /// The form of a row of a line, before which so many stand. The rows before it are passed.
-    pub fn form_at(&mut self, line: u32, row: u32) -> Option<RowForm<'a>> {
-        let mut form = None;
+    /// What is told of the code in a row of a line, before which so many stand. The rows before it are passed.
+    pub fn code_at(&mut self, line: u32, row: u32) -> RowCode<'a> {
+        let mut code = RowCode::plain();
         for _ in 0..2 {
-            let Some(used) = self.beside.uses.get(self.passed) else {
-                return form;
+            let Some(note) = self.beside.codes.get(self.passed) else {
+                return code;
             };
-            if is_behind(used, line, row) {
-                return form;
+            if is_behind(note, line, row) {
+                return code;
             }
-            if used.line == line && used.row == row {
-                form = self.form(used.form);
+            if note.line == line && note.row == row {
+                code = self.code(note);
             }
             self.passed = self.passed.saturating_add(1);
         }
-        form
+        code
+    }
+
+    /// What causes that aren't told yet mean in a row: those of its statement. A line's own statement may have its flag on a later row.
+    pub fn meant_in(&self, line: u32, row: &[u8]) -> &'a [MeantColumns] {
+        match self.beside.causes.get(self.told) {
+            Some(cause) if cause.line == line => {}
+            _ => return &[],
+        }
+        let behind_told = behind(self.beside.causes.as_slice(), self.told);
+        let mut count: usize = 0;
+        for cause in behind_told {
+            if cause.line != line || !shows(cause, row) {
+                break;
+            }
+            count = count.saturating_add(1);
+        }
+        let meant = behind(self.beside.meant.as_slice(), self.told);
+        meant.split_at(count.min(meant.len())).0
     }
 
     /// Whether a row has another address than the last that had one; where it has a code, than the last that had one too.
@@ -100,8 +118,16 @@ impl<'a> Telling<'a> {
         }
     }
 
-    fn form(&self, before: u32) -> Option<RowForm<'a>> {
-        let form = self.beside.forms.get(before as usize)?;
+    fn code(&self, note: &CodeNote) -> RowCode<'a> {
+        RowCode {
+            form: self.form(note.form),
+            shift: note.shift,
+            operand: note.operand,
+        }
+    }
+
+    fn form(&self, before: Option<u32>) -> Option<RowForm<'a>> {
+        let form = self.beside.forms.get(before? as usize)?;
         Some(RowForm {
             name: form.name.as_slice(),
             operands: form.operands.as_slice(),
@@ -111,9 +137,48 @@ impl<'a> Telling<'a> {
     }
 }
 
-/// Whether the use of a form stands behind a row of a line.
-fn is_behind(used: &FormUse, line: u32, row: u32) -> bool {
-    used.line > line || (used.line == line && used.row > row)
+/// What is told of the code in a row.
+#[derive(Clone, Copy)]
+pub struct RowCode<'a> {
+    /// The form of its instruction, if it has one.
+    pub form: Option<RowForm<'a>>,
+    /// How many digits of its word stand before it.
+    pub shift: u8,
+    /// Of a later row the operand that made it.
+    pub operand: OperandColumns,
+}
+
+impl RowCode<'_> {
+    /// Nothing.
+    fn plain() -> RowCode<'static> {
+        RowCode {
+            form: None,
+            shift: 0,
+            operand: OperandColumns {
+                before: 0,
+                behind: 0,
+            },
+        }
+    }
+}
+
+/// What stands behind so many of some.
+fn behind<T>(all: &[T], count: usize) -> &[T] {
+    all.split_at(count.min(all.len())).1
+}
+
+/// Whether the note of a code stands behind a row of a line.
+fn is_behind(note: &CodeNote, line: u32, row: u32) -> bool {
+    note.line > line || (note.line == line && note.row > row)
+}
+
+/// Whether a row shows the statement of a cause: a line's own, or one of its expansion that has the cause's letter.
+fn shows(cause: &Cause, row: &[u8]) -> bool {
+    let (front, shown) = row.split_at(BEFORE_LINE.min(row.len()));
+    if cause.statement.is_empty() {
+        return !front.ends_with(b"+ ") && shown.len() > 1;
+    }
+    front.contains(&cause.letter) && shown.starts_with(&cause.statement)
 }
 
 /// Whether a cause is one of a row, if there is one.

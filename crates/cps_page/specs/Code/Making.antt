@@ -1,12 +1,12 @@
 -- For the code of a page, not part of what a reader believes: its parts in the making.
-use Rattle.std.specs.Prelude.{◌≡◌, ℕ, ◌+◌, ◌<◌, ◌≤◌, ◌^◌, ⊤, Bool, true, List, [], ◌∷◌, ◌++◌, All, count_by, map, filter, find, length, Option, None, Some, option_map}
+use Rattle.std.specs.Prelude.{◌≡◌, ℕ, ◌+◌, ◌<◌, ◌≤◌, ◌^◌, ⊤, Bool, true, List, [], ◌∷◌, ◌++◌, All, count_by, map, filter, find, drop, length, Option, None, Some, option_map}
 use Rattle.std.specs.Ordering.{is_lt}
 use Rattle.cps_text.specs.declared.name.Name.{Name}
 use Rattle.cps_expr.specs.Value.{same_name}
 use Rattle.cps_list.specs.Assembly.{Assembly}
 use Rattle.cps_list.specs.Binary.{binary_text}
 use Rattle.cps_list.specs.Flagged.{flags_text}
-use Rattle.cps_list.specs.ListingText.{listing_text}
+use Rattle.cps_list.specs.ListingText.{listing_from, listing_text}
 use Rattle.cps_list.specs.declared.mention.Mention.{Mention}
 use Rattle.cps_list.specs.Symbols.{defining_line, mentions_from, mentions_of, name_order, symbols_text}
 use Rattle.cps_markup.specs.declared.place.Place.{Place}
@@ -122,6 +122,15 @@ pub record AddsSection (targets : Targets) (which : PageSection) (words : List �
 -- a page has the table of blocks more, in which each named block is a place
 abbrev pub AddsMemorySection : Targets → List ℕ → List ℕ → Type 0
 AddsMemorySection targets old new = AddsSection targets page.Memory [] (blocks_among targets.blocks.items) old new
+
+-- a page has the lines behind so many, up to so many, more: what they say and their places, behind which those of the others come
+pub record AddsLines (targets : Targets) (assembly : Assembly) (begin end : ℕ) (old new : List ℕ) : Type 0 where
+  pub words : List ℕ
+  pub here : List Place
+  pub added : Adds (Leads targets) words here old new
+  pub same_words : listing_from (begin + 1) (drop begin assembly.lines) (drop begin assembly.outcomes)
+      ≡ words ++ listing_from (end + 1) (drop end assembly.lines) (drop end assembly.outcomes)
+  pub same_places : lines_from (begin + 1) (drop begin assembly.lines) ≡ here ++ lines_from (end + 1) (drop end assembly.lines)
 
 -- a page has the listing more, in which each line is a place
 abbrev pub AddsListing : Targets → Assembly → List ℕ → List ℕ → Type 0
