@@ -26,7 +26,8 @@ pub enum CauseDetail {
 /// `end E` and the number of the line that opened it.
 pub fn told_of(alloc: Global, detail: CauseDetail, texts: &[&str]) -> Option<Vec<u8>> {
     let lines = lines_of(alloc, texts)?;
-    let told = match PassOne::of(alloc, Hashing::by(1), &lines, &mut Work::new()) {
+    let mut work = Work::new();
+    let told = match PassOne::of(alloc, Hashing::by(1), &lines, &mut work) {
         Ok(one) => told_by(alloc, detail, &lines, &one).ok(),
         Err(_) => None,
     };
