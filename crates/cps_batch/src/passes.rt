@@ -1,12 +1,12 @@
 //! The two passes of batch assembly over the lines of a source.
 ghost use Rattle.std.specs.Prelude.{◌≡◌, ℕ, List, [], ◌∷◌, ◌++◌, ◌+◌, ◌≤◌, ◌<◌, length, IfOk, OnOk};
 ghost use Rattle.cps_state.specs.Code.Scratch.{statements_on};
-ghost use Rattle.cps_list.specs.Code.Making.{IsPrintoutOf, shows_symbols};
+ghost use Rattle.cps_list.specs.Code.Making.{shows_symbols};
 ghost use Rattle.cps_list.specs.Texts.{text_of};
-ghost use Rattle.cps_edit.specs.Assembly.{assembly_of, outcomes_under, traces_of};
+ghost use Rattle.cps_edit.specs.Assembly.{assembly_of, traces_of};
 ghost use Rattle.cps_edit.specs.Flagged.{flagged_lines};
 ghost use Rattle.cps_batch.specs.Code.Words.{AreWordsOf};
-ghost use Rattle.cps_batch.specs.Code.Passes.{AreKeptParts, AreParts, AreStatements, IsNext, IsPassed, IsShown, KeepsOn, PassesOn, ShowsOn, noted, statements_of};
+ghost use Rattle.cps_batch.specs.Code.Passes.{AreKeptParts, AreParts, AreShown, GathersNext, IsPassed, IsShown, KeepsOn, PassesOn, ShowsOn, ShowsStatements, StepsNext, noted, statements_of};
 ghost use Rattle.cps_edit.specs.Code.PassOne.{AreGathered};
 
 use crate::source_words::SourceWords;
@@ -170,7 +170,7 @@ impl BatchPassOne {
     fn show(&self, alloc: Global, lines: &LineText) -> Result<Printout, AllocError>
         requires few { length lines.now ≤ MOST_LINES }
         requires kept { AreKeptParts self.now.ends (statements_on self.now.scratch) (statements_of (traces_of lines.now)) }
-        ensures printout { IfOk result (IsPrintoutOf lines.now (outcomes_under (⟦<Finals as Gathered>⟧.gathered self.now.gather) (traces_of lines.now))) }
+        ensures printout { IfOk result (AreShown self.now.gather lines.now) }
         ensures part { IfOk result (λ printout. printout.part ≡ self.now.part) }
         ensures few { IfOk result (λ printout. printout.flagged ≤ MOST_LINES) }
     {
@@ -239,7 +239,7 @@ fn step_next(
     gather: &Gather,
     line: &[u8],
 ) -> Result<(), AllocError>
-    ensures { OnOk result ((before : List (List ℕ)) → AreGathered before gather.now → IsNext before line.now (statements_on scratch.old) scratch.new) }
+    ensures { OnOk result (StepsNext line.now gather.now scratch.old scratch.new) }
 {
     step_unasked(alloc, &mut Work::new(), scratch, line, gather.state())
 }
@@ -289,7 +289,7 @@ impl<'a> PassTwo<'a> {
     /// Adds the next line, which stands for these statements.
     fn add(&mut self, number: u32, line: &[u8], items: &[Item]) -> Result<(), AllocError>
         requires { self.old.printout.flagged < number }
-        ensures shown { OnOk result ((lines : List (List ℕ)) → AreStatements lines line.now items.now → ShowsOn lines line.now number self.old self.new) }
+        ensures shown { OnOk result (ShowsStatements line.now items.now number self.old self.new) }
         ensures finals { OnOk result (self.new.finals.now ≡ self.old.finals.now) }
         ensures part { OnOk result (self.new.printout.part ≡ self.old.printout.part) }
         ensures few { OnOk result (self.new.printout.flagged ≤ number) }
@@ -317,7 +317,7 @@ fn show_kept(
 ) -> Result<Printout, AllocError>
     requires few { length lines.now ≤ MOST_LINES }
     requires kept { AreParts kept.ends.now kept.items.now (statements_of (traces_of lines.now)) }
-    ensures printout { IfOk result (IsPrintoutOf lines.now (outcomes_under (⟦<Finals as Gathered>⟧.gathered finals.now) (traces_of lines.now))) }
+    ensures printout { IfOk result (AreShown finals.now lines.now) }
     ensures part { IfOk result (λ printout. printout.part ≡ part) }
     ensures few { IfOk result (λ printout. printout.flagged ≤ MOST_LINES) }
 {
@@ -337,7 +337,7 @@ fn show_again(
     finals: &Finals,
 ) -> Result<Printout, AllocError>
     requires { length lines.now ≤ MOST_LINES }
-    ensures printout { IfOk result (IsPrintoutOf lines.now (outcomes_under (⟦<Finals as Gathered>⟧.gathered finals.now) (traces_of lines.now))) }
+    ensures printout { IfOk result (AreShown finals.now lines.now) }
     ensures part { IfOk result (λ printout. printout.part ≡ part) }
     ensures few { IfOk result (λ printout. printout.flagged ≤ MOST_LINES) }
 {
@@ -388,7 +388,7 @@ impl<'a> Again<'a> {
     /// Takes the next line.
     fn take_line(&mut self, alloc: Global, number: u32, line: &[u8]) -> Result<(), AllocError>
         requires { self.old.two.printout.flagged < number }
-        ensures gathered { OnOk result ((lines : List (List ℕ)) → AreGathered lines self.old.gather → AreGathered (lines ++ line.now ∷ []) self.new.gather) }
+        ensures gathered { OnOk result (GathersNext line.now self.old.gather self.new.gather) }
         ensures shown { OnOk result ((lines : List (List ℕ)) → AreGathered lines self.old.gather
             → ShowsOn lines line.now number self.old.two self.new.two) }
         ensures finals { OnOk result (self.new.two.finals.now ≡ self.old.two.finals.now) }

@@ -5,9 +5,10 @@ use Rattle.cps_state.specs.declared.item.Item.{Item}
 use Rattle.cps_state.specs.Course.{Trace}
 use Rattle.cps_state.specs.Code.Scratch.{Scratch, StandsOn, statements_on}
 use Rattle.cps_input.specs.Code.Parts.{RisesTo, parts_at}
+use Rattle.cps_final.specs.declared.finals.Finals.{Finals as Gather}
 use Rattle.cps_final.specs.contracts.finals.FinalsGathered.TheImpl as finals
 use Rattle.cps_final.specs.Finals.{Finals}
-use Rattle.cps_list.specs.Code.Making.{IsPrintoutOf, shown, shows_symbols}
+use Rattle.cps_list.specs.Code.Making.{IsPrintoutOf, Printout, shown, shows_symbols}
 use Rattle.cps_list.specs.Symbols.{mentions_from, mentions_on}
 use Rattle.cps_list.specs.declared.mention.Mention.{Mention}
 use Rattle.cps_final.specs.LineNames.{names_defined, names_read}
@@ -43,6 +44,14 @@ pub record IsNext (before : List (List ℕ)) (line : List ℕ) (front : List Ite
   pub stands : StandsOn scratch front trace
   pub traces : IsTrace before line trace
 
+-- behind any lines that were gathered, what a line does stands on a scratch
+abbrev pub StepsNext : List ℕ → Gather → Scratch → Scratch → Type 0
+StepsNext line gathered old new = (before : List (List ℕ)) → AreGathered before gathered → IsNext before line (statements_on old) new
+
+-- a line is gathered behind any lines that were
+abbrev pub GathersNext : List ℕ → Gather → Gather → Type 0
+GathersNext line old new = (lines : List (List ℕ)) → AreGathered lines old → AreGathered (lines ++ line ∷ []) new
+
 -- pass one: what was gathered, the statements of each line, if they are kept, and the symbols, if they are shown
 pub record IsPassed (lines : List (List ℕ)) (one : BatchPassOne) : Type 0 where
   pub gathered : AreGathered lines one.gather
@@ -64,3 +73,11 @@ IsShown lines two = IsPrintoutOf lines (outcomes_under (finals.gathered-value.it
 -- pass two of lines, and of one line more with its number
 abbrev pub ShowsOn : List (List ℕ) → List ℕ → ℕ → PassTwo → PassTwo → Type 0
 ShowsOn lines line number old new = IsShown lines old → number ≡ length lines + 1 → IsShown (lines ++ line ∷ []) new
+
+-- behind any lines, a line that stands for these statements is shown
+abbrev pub ShowsStatements : List ℕ → List Item → ℕ → PassTwo → PassTwo → Type 0
+ShowsStatements line items number old new = (lines : List (List ℕ)) → AreStatements lines line items → ShowsOn lines line number old new
+
+-- the lines that were gathered are shown, under the final values
+abbrev pub AreShown : Gather → List (List ℕ) → Printout → Type 0
+AreShown gathered lines = IsPrintoutOf lines (outcomes_under (finals.gathered-value.it gathered) (traces_of lines))
