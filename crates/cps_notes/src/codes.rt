@@ -29,6 +29,13 @@ struct ListedItem<'a> {
     item: &'a Item,
 }
 
+/// Where a code stands: how many rows of its line stand before its own, and how many bits of its word.
+#[derive(Clone, Copy)]
+struct CodePlace {
+    rows: u32,
+    bits: u8,
+}
+
 impl CodeLister {
     /// Of no line of a source.
     pub fn of<V: View>(alloc: Global, view: &V) -> CodeLister {
@@ -103,23 +110,26 @@ impl CodeLister {
         } else {
             WordOperands::none()
         };
-        let mut used = (made.start() % WORD) as u8;
-        let mut before = listed.before;
+        let mut before = CodePlace {
+            rows: listed.before,
+            bits: (made.start() % WORD) as u8,
+        };
         for (content, row) in made.contents().iter().zip(rows) {
             let operand = operands.take();
-            self.take_row(listed, before, used, row, operand)?;
-            used = bits_behind(self.machine, used.saturating_add(content.width()));
-            before = before.saturating_add(1);
+            self.take_row(listed, before, row, operand)?;
+            before = CodePlace {
+                rows: before.rows.saturating_add(1),
+                bits: bits_behind(self.machine, before.bits.saturating_add(content.width())),
+            };
         }
         Ok(())
     }
 
-    /// Takes a row whose code begins behind so many bits of its word.
+    /// Takes a row, whose code stands at a place.
     fn take_row(
         &mut self,
         listed: &ListedItem<'_>,
-        before: u32,
-        used: u8,
+        before: CodePlace,
         row: &Row,
         operand: OperandColumns,
     ) -> Result<(), AllocError> {
@@ -128,9 +138,9 @@ impl CodeLister {
         };
         let note = CodeNote {
             line: listed.line,
-            row: before,
+            row: before.rows,
             form: self.forms.take(listed.text, row, digits)?,
-            shift: shift_of(self.machine, used, digits.count),
+            shift: shift_of(self.machine, before.bits, digits.count),
             operand: if row.is_later {
                 operand
             } else {
