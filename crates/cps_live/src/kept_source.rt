@@ -1,9 +1,8 @@
 //! What is kept of a source, and new lines in the place of others.
 ghost use Rattle.std.specs.Prelude.{◌≡◌, ◌+◌, ◌<◌, ◌^◌, [], IfOk, OnOk, OnErr, vec_len};
 ghost use Rattle.cps_chunk.specs.Code.Chunk.{lengths_of};
-ghost use Rattle.cps_chunk.specs.Sparse.{renewed};
 ghost use Rattle.cps_live.specs.Edits.{AreRedone};
-ghost use Rattle.cps_live.specs.Code.Editing.{AreKept, ArePatchedEnds, AreNewTraces, AreOutcomesOf, HasPassedAgain, HasReadNews, HasRoomFor, HasRoomToPatch, IsSplice, IsEdited, IsFirstPass, IsKept, IsStill, IsStillWith, LooksOfFirst, LooksOfSplice, StepsOfFirst, StepsOfSplice, put_between, splice_of};
+ghost use Rattle.cps_live.specs.Code.Editing.{AreKept, ArePatchedEnds, AreNewTraces, AreOutcomesOf, HasPassedAgain, HasReadNews, HasRoomFor, HasRoomToPatch, IsSplice, IsEdited, IsFirstPass, IsKept, IsStill, IsStillWith, LooksOfFirst, LooksOfSplice, StepsOfFirst, StepsOfSplice, with_news, splice_of};
 ghost use Rattle.cps_live.specs.Code.Redone.{ArePlacesOf};
 ghost use Rattle.cps_live.specs.Code.Storing.{IsStorageOf};
 
@@ -281,7 +280,7 @@ impl KeptSource {
         requires room { HasRoomFor self.old cut parts.chunks }
         ensures kept { AreKept self.new }
         ensures edited { IsEdited cut self.old self.new }
-        ensures outcomes { self.new.outcomes.items ≡ put_between cut.keep cut.from parts.outcomes.entered.items (renewed 0 parts.outcomes.renewed.items self.old.outcomes.items) }
+        ensures outcomes { self.new.outcomes.items ≡ with_news cut parts.outcomes self.old.outcomes.items }
         ensures finals { self.new.finals ≡ self.old.finals }
     {
         let NewParts {

@@ -24,6 +24,7 @@ use Rattle.cps_chunk.specs.declared.chunk.Chunk.{Chunk}
 use Rattle.cps_chunk.specs.Code.Looks.{first_looks, second_looks}
 use Rattle.cps_chunk.specs.Replayed.{redone_behind, redone_front, replayed_behind, state_front}
 use Rattle.cps_chunk.specs.Code.Recuts.{Recuts}
+use Rattle.cps_chunk.specs.Sparse.{renewed}
 use Rattle.cps_chunk.specs.Touched.{touched_of}
 use Rattle.cps_live.specs.Code.NamesRead.{HasRead, items_of}
 use Rattle.cps_chunk.specs.declared.put.ChunkSplice.{ChunkSplice}
@@ -49,6 +50,10 @@ traces_of_new lines cut = traces_from (state_front lines (splice_of cut)) cut.li
 -- items in the place of those after the first `keep` up to the first `from`
 abbrev pub put_between : {X : Type 0} → ℕ → ℕ → List X → List X → List X
 put_between keep from news items = take keep items ++ (news ++ drop from items)
+
+-- items with what a pass made of an edit: of the new lines, and of others in their places
+abbrev pub with_news : {X : Type 0} → ChunkSplice → News X → List X → List X
+with_news cut news items = put_between cut.keep cut.from news.entered.items (renewed 0 news.renewed.items items)
 
 -- ---- what is kept
 
