@@ -7,7 +7,7 @@ use Rattle.std.specs.List.{position_from}
 use Rattle.std.specs.Ordering.{is_eq}
 use Rattle.cps_text.specs.declared.name.Name.{Name}
 use Rattle.cps_text.specs.Name.{is_one}
-use Rattle.cps_text.specs.Code.Substitutes.{name_order}
+use Rattle.cps_list.specs.Symbols.{name_order}
 use Rattle.cps_mention.specs.declared.macro_names.MacroName.{MacroName}
 use Rattle.cps_mention.specs.Code.MacroNames.{Indexes, place_in}
 

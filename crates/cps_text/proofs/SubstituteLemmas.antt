@@ -1,15 +1,19 @@
 -- What stands for names: one more, in a list and in an index of it.
 use Rattle.std.proofs.Common.{◌≡◌, ℕ, Bool, true, false, cond, List, [], ◌∷◌, ◌++◌, Option, None, Some, refl, sym, ap, subst, ◌∙◌, take, get_or, ◌+◌, ◌<◌, length}
-use Rattle.std.specs.Prelude.{option_map, is_some}
+use Rattle.std.specs.Prelude.{option_map, unwrap_or}
 use Rattle.std.specs.BTreeMap.{BTreeMap, get}
-use Rattle.std.specs.Cmp.Lexicographic.{texts_ties, bytes_decides}
+use Rattle.std.specs.Cmp.{unsigned_ties}
+use Rattle.std.specs.Cmp.Lexicographic.{bytes_decides}
 use Rattle.std.specs.Ordering.{is_eq}
 use Rattle.std.proofs.lemmas.List.{take_more, map-append}
 use Rattle.cps_text.specs.declared.name.Name.{Name}
+use Rattle.cps_text.specs.declared.name_number.NameNumber.{NameNumber}
 use Rattle.cps_text.specs.declared.substitutes.Substitute.{Substitute}
 use Rattle.cps_text.specs.Insertion.{Pairs, text_of}
 use Rattle.cps_text.specs.Name.{is_one}
-use Rattle.cps_text.specs.Code.Substitutes.{substitute_value, substitutes_value, name_order, Indexes}
+use Rattle.cps_text.specs.Code.NameNumbers.{name_number, number_of, number_order, HasEightBytes}
+use Rattle.cps_text.specs.Code.Substitutes.{substitute_value, substitutes_value, Indexes}
+use Rattle.cps_text.proofs.NameLemmas.{one-text}
 
 one-is : (a b : Name) → is_one a b ≡ true → a ≡ b
 one-is a b is = let same = (bytes_decides a.bytes b.bytes).0 is in λ i. record { bytes = same i }
@@ -44,46 +48,35 @@ of-more (pair ∷ pairs) name text other = of-next (is_one pair.0 other) pair _ 
 
 -- ---- one more in both
 
-none-there : {X : Type 0} (o : Option X) → is_some o ≡ false → o ≡ None
-none-there None h = refl
-none-there (Some x) h = cc
+number-ties : (a b : Name) → HasEightBytes a → HasEightBytes b → is_eq (number_order (number_of a) (number_of b)) ≡ is_one a b
+number-ties a b eight other =
+    sym (unsigned_ties (name_number a) (name_number b)) ∙ one-text a.bytes b.bytes eight.0 eight.1 other.0 other.1
 
-some-first : (found : Option Substitute) (text : Option (List ℕ)) (last : Option (List ℕ)) → is_some found ≡ true → option_map substitute_value found ≡ text → text ≡ or_else text last
-some-first None text last some is = cc
-some-first (Some one) text last some is = sym is ∙ ap (λ t. or_else t last) is
+first-counts : (found : Option Substitute) (known : Option (List ℕ)) (text : Substitute) → option_map substitute_value found ≡ known
+    → option_map substitute_value (Some (unwrap_or found text)) ≡ or_else known (Some (substitute_value text))
+first-counts None known text is = ap (λ o. or_else o (Some (substitute_value text))) is
+first-counts (Some one) known text is = ap (λ o. or_else o (Some (substitute_value text))) is
 
--- a name that the index has already
-taken-by : (b : Bool) (pairs : Pairs) (index : BTreeMap Name Substitute) (name : Name) (text : List ℕ) (other : Name) → is_one name other ≡ b
-    → is_some (get name_order index name) ≡ true → Indexes pairs index → text_of pairs other ≡ or_else (text_of pairs other) (last_of b text)
-taken-by true pairs index name text other is some was =
-    some-first (get name_order index name) (text_of pairs other) (Some text) some (was name ∙ ap (text_of pairs) (one-is name other is))
-taken-by false pairs index name text other is some was = sym (or-none (text_of pairs other))
+entered-by : (b : Bool) (pairs : Pairs) (index : BTreeMap NameNumber Substitute) (name : Name) (text : Substitute) (other : Name) → is_one name other ≡ b
+    → HasEightBytes name → HasEightBytes other → Indexes pairs index
+    → option_map substitute_value (cond b (Some (unwrap_or (get number_order index (number_of name)) text)) (get number_order index (number_of other)))
+    ≡ or_else (text_of pairs other) (last_of b (substitute_value text))
+entered-by true pairs index name text other is eight also was =
+    first-counts (get number_order index (number_of name)) (text_of pairs other) text (was name eight ∙ ap (text_of pairs) (one-is name other is))
+entered-by false pairs index name text other is eight also was = was other also ∙ sym (or-none (text_of pairs other))
 
-pub indexes-taken : (pairs : Pairs) (index : BTreeMap Name Substitute) (name : Name) (text : Substitute)
-    → is_some (get name_order index name) ≡ true → Indexes pairs index → Indexes (pairs ++ (name, substitute_value text) ∷ []) index
-indexes-taken pairs index name text some was = λ other.
-    was other ∙ taken-by (is_one name other) pairs index name (substitute_value text) other refl some was ∙ sym (of-more pairs name (substitute_value text) other)
-
--- a new one
-new-by : (b : Bool) (pairs : Pairs) (index : BTreeMap Name Substitute) (name : Name) (text : Substitute) (other : Name) → is_one name other ≡ b
-    → is_some (get name_order index name) ≡ false → Indexes pairs index
-    → option_map substitute_value (cond b (Some text) (get name_order index other)) ≡ or_else (text_of pairs other) (last_of b (substitute_value text))
-new-by true pairs index name text other is none was =
-    let empty : text_of pairs other ≡ None =
-    ap (text_of pairs) (sym (one-is name other is)) ∙ sym (was name) ∙ ap (option_map substitute_value) (none-there (get name_order index name) none) in
-    sym (ap (λ o. or_else o (Some (substitute_value text))) empty)
-new-by false pairs index name text other is none was = was other ∙ sym (or-none (text_of pairs other))
-
-pub indexes-new : (pairs : Pairs) (index new : BTreeMap Name Substitute) (name : Name) (text : Substitute) → is_some (get name_order index name) ≡ false
-    → ((other : Name) → get name_order new other ≡ cond (is_eq (name_order name other)) (Some text) (get name_order index other))
+-- a name that the index has already keeps what stands for it
+pub indexes-entered : (pairs : Pairs) (index new : BTreeMap NameNumber Substitute) (name : Name) (text : Substitute) → HasEightBytes name
+    → ((n : NameNumber) → get number_order new n ≡ cond (is_eq (number_order (number_of name) n)) (Some (unwrap_or (get number_order index (number_of name)) text)) (get number_order index n))
     → Indexes pairs index → Indexes (pairs ++ (name, substitute_value text) ∷ []) new
-indexes-new pairs index new name text none updates was = λ other.
-    ap (option_map substitute_value) (updates other ∙ ap (λ b. cond b (Some text) (get name_order index other)) (sym (texts_ties name.bytes other.bytes)))
-    ∙ new-by (is_one name other) pairs index name text other refl none was
+indexes-entered pairs index new name text eight updates was = λ other also.
+    ap (option_map substitute_value) (updates (number_of other)
+    ∙ ap (λ b. cond b (Some (unwrap_or (get number_order index (number_of name)) text)) (get number_order index (number_of other))) (number-ties name other eight also))
+    ∙ entered-by (is_one name other) pairs index name text other refl eight also was
     ∙ sym (of-more pairs name (substitute_value text) other)
 
 -- an index of the first pairs of a list, one more
-pub indexes-next : (pairs : List (Name × Substitute)) (i : ℕ) (d : Name × Substitute) (old new : BTreeMap Name Substitute) → i < length pairs
+pub indexes-next : (pairs : List (Name × Substitute)) (i : ℕ) (d : Name × Substitute) (old new : BTreeMap NameNumber Substitute) → i < length pairs
     → ((known : Pairs) → Indexes known old → Indexes (known ++ ((get_or pairs i d).0, substitute_value (get_or pairs i d).1) ∷ []) new)
     → Indexes (substitutes_value (take i pairs)) old → Indexes (substitutes_value (take (i + 1) pairs)) new
 indexes-next pairs i d old new lt more was =

@@ -12,6 +12,7 @@
 //! - `line.rt`: a line of a source
 //! - `masked_card.rt`: the columns of a card, with a mask of those that are filled
 //! - `name.rt`: symbols and generated names
+//! - `name_number.rt`: names as numbers, by which maps find them
 //! - `octal.rt`: numbers in octal
 //! - `operand.rt`: the first operand of a text
 //! - `operand_list.rt`: operands, one after another
@@ -34,6 +35,7 @@ pub mod limits;
 mod line;
 mod masked_card;
 mod name;
+mod name_number;
 mod octal;
 mod operand;
 mod operand_list;

@@ -10,9 +10,11 @@ ghost use Rattle.std.specs.Cmp.Rules.{comparing, hashing};
 ghost use Rattle.std.proofs.Common.{rules};
 ghost use Rattle.cps_text.specs.Name.{digit_at, is_one};
 ghost use Rattle.cps_text.specs.Symbol.{begins_symbol, continues_symbol, is_register, is_symbol, is_generated, padded, is_padding};
+ghost use Rattle.cps_text.specs.Code.NameFronts.{begins_name};
 ghost use Rattle.cps_text.specs.Text.{among, capitals, is_digit};
 
 use crate::character::capital;
+use crate::name_number::order_of_numbers;
 use std::cmp::Ordering;
 use std::hash::{Hash, Hasher};
 
@@ -74,7 +76,10 @@ impl Ord for Name {
 fn order_of(left: Name, right: Name) -> Ordering
     ensures { result ≡ slice_cmp nat_cmp left.bytes right.bytes }
 {
-    u64::from_be_bytes(left.bytes).cmp(&u64::from_be_bytes(right.bytes))
+    order_of_numbers(
+        u64::from_be_bytes(left.bytes),
+        u64::from_be_bytes(right.bytes),
+    )
 }
 
 /// A name hashes as one number.
@@ -90,12 +95,13 @@ impl Hash for Name {
 
 impl Name {
     ghost use Rattle.cps_text.specs.Name.{name_of, name_text, generated_name, was_generated};
+    ghost use Rattle.cps_text.specs.Code.NameNumbers.{name_number, HasEightBytes};
 
     /// The symbol that a text writes, in capitals or not, or the generated name. None: it writes none.
     pub fn read(text: &[u8]) -> Option<Name>
         ensures { result ≡ name_of text.now }
     {
-        if text.len() > LONGEST {
+        if text.len() > LONGEST || !begins_name(text) {
             return None;
         }
         let bytes = padded(text);
@@ -132,6 +138,14 @@ impl Name {
         self.bytes[0] == b'~'
     }
 
+    /// The number that its bytes write, the first byte the lowest.
+    pub(crate) fn number(self) -> u64
+        ensures number { result ≡ name_number self }
+        ensures bytes { HasEightBytes self }
+    {
+        u64::from_le_bytes(self.bytes)
+    }
+
     /// The characters.
     pub fn text(&self) -> &[u8]
         ensures { result.now ≡ name_text self.now }
@@ -140,6 +154,17 @@ impl Name {
             Some(end) => &self.bytes[..end],
             None => &self.bytes,
         }
+    }
+}
+
+/// Whether a text begins as a name does.
+#[inline(always)]
+fn begins_name(text: &[u8]) -> bool
+    ensures { result ≡ begins_name text.now }
+{
+    match text {
+        [first, ..] => begins_symbol(capital(*first)) || capital(*first) == b'~',
+        [] => false,
     }
 }
 

@@ -5,6 +5,7 @@ ghost use Rattle.cps_text.specs.Code.Substitutes.{substitute_value, substitutes_
 
 use crate::insertion::Substitution;
 use crate::name::Name;
+use crate::name_number::NameNumber;
 use std::alloc::{AllocError, Global};
 use std::collections::BTreeMap;
 use std::marker::Model;
@@ -31,8 +32,8 @@ impl<'a> Substitute<'a> {
     }
 }
 
-/// By a name what stands for it.
-type Index<'a> = BTreeMap<Name, Substitute<'a>>;
+/// By the number of a name what stands for it.
+type Index<'a> = BTreeMap<NameNumber, Substitute<'a>>;
 
 /// Names, each with what stands for it. The first pair of a name counts.
 #[derive(Drop)]
@@ -117,10 +118,7 @@ fn enter<'a>(index: &mut Index<'a>, pair: &(Name, Substitute<'a>)) -> Result<(),
     ensures ok { OnOk result ((pairs : Pairs) → Indexes pairs index.old → Indexes (pairs ++ (pair.now.0, substitute_value pair.now.1) ∷ []) index.new) }
     ensures err { OnErr result ((pairs : Pairs) → Indexes pairs index.old → Indexes pairs index.new) }
 {
-    if index.contains_key(&pair.0) {
-        return Ok(());
-    }
-    index.insert(pair.0, pair.1)?;
+    index.entry(NameNumber::of(pair.0))?.or_insert(pair.1);
     Ok(())
 }
 
@@ -128,7 +126,7 @@ fn enter<'a>(index: &mut Index<'a>, pair: &(Name, Substitute<'a>)) -> Result<(),
 fn text_in<'s>(index: &'s Index<'_>, name: Name) -> Option<&'s [u8]>
     ensures { (pairs : Pairs) → Indexes pairs index.now → option_map (λ text. text.now) result ≡ text_of pairs name }
 {
-    match index.get(&name) {
+    match index.get(&NameNumber::of(name)) {
         Some(text) => Some(text.text()),
         None => None,
     }

@@ -4,7 +4,7 @@ use Rattle.std.specs.BTreeMap.{BTreeMap, get}
 use Rattle.std.specs.Borrow.{Bor}
 use Rattle.std.specs.List.{position_from}
 use Rattle.cps_text.specs.declared.name.Name.{Name}
-use Rattle.cps_text.specs.Code.Substitutes.{name_order}
+use Rattle.cps_list.specs.Symbols.{name_order}
 use Rattle.cps_text.specs.Insertion.{is_of_run}
 use Rattle.cps_text.specs.Line.{longest_line}
 use Rattle.cps_text.specs.Name.{is_one, name_of}
