@@ -10,6 +10,7 @@ pub mod LoneElements
 pub mod NumberReading
 pub mod OperationLemmas
 pub mod PackingLemmas
+pub mod ParameterLemmas
 pub mod ReadsLemmas
 pub mod RowBounds
 pub mod StatementRows

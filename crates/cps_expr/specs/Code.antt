@@ -2,5 +2,6 @@
 pub mod ReadSoFar
 pub mod TermsKept
 pub mod TermsLeft
+pub mod Twice
 pub mod ValuedSoFar
 pub mod WordsLeft

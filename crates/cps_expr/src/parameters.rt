@@ -3,6 +3,7 @@ ghost use Rattle.std.specs.Prelude.{◌≡◌};
 ghost use Rattle.std.specs.List.{list_any};
 ghost use Rattle.cps_text.specs.Operands.{operands_of};
 ghost use Rattle.cps_expr.specs.Reads.{Reads};
+ghost use Rattle.cps_expr.specs.Code.Twice.{is_twice};
 ghost use Rattle.cps_expr.specs.Row.{is_equal_sign, parameter_of, parameters_of, locals_of, stands_twice};
 
 use crate::expr::ExprFault;
@@ -50,10 +51,16 @@ pub(crate) fn read_parameters(
 ) -> Result<Sequence<Name>, ExprFault>
     ensures { Reads result (parameters_of (operands_of tail.now)) }
 {
-    if some_stands_twice(tail) {
-        return Err(ExprFault::Unreadable);
+    match read_all::<Name>(alloc, tail, radix) {
+        Ok(names) => {
+            if some_is_twice(names.as_slice()) {
+                return Err(ExprFault::Unreadable);
+            }
+            Ok(names)
+        }
+        Err(ExprFault::Memory) if !some_stands_twice(tail) => Err(ExprFault::Memory),
+        Err(_) => Err(ExprFault::Unreadable),
     }
-    read_all(alloc, tail, radix)
 }
 
 /// One operand or more as local names, which are written as parameters are.
@@ -66,6 +73,35 @@ pub fn read_locals(alloc: Global, tail: &[u8]) -> Result<Sequence<Name>, ExprFau
     }
     read_parameters(alloc, tail, Radix::Decimal)
 }
+
+fn some_is_twice(names: &[Name]) -> bool
+    ensures { result ≡ list_any (is_twice names.now) names.now }
+{
+    for name in names {
+        if is_twice(names, *name) {
+            return true;
+        }
+    }
+    false
+}
+
+/// Whether a name is two of these.
+fn is_twice(names: &[Name], name: Name) -> bool
+    ensures { result ≡ is_twice names.now name }
+{
+    let mut was_found = false;
+    for other in names {
+        if name == *other {
+            if was_found {
+                return true;
+            }
+            was_found = true;
+        }
+    }
+    false
+}
+
+// ---- where names found no room, the operands themselves are compared
 
 fn some_stands_twice(tail: &[u8]) -> bool
     ensures { result ≡ list_any (stands_twice (operands_of tail.now)) (operands_of tail.now) }
