@@ -6,7 +6,7 @@ ghost use Rattle.cps_text.specs.Runs.{runs};
 
 use crate::card::{is_comment, read_columns};
 use crate::masked_card::MaskedCard;
-use crate::name::Name;
+use crate::name::{Name, begins_name};
 use crate::run::run_len;
 use std::alloc::{AllocError, Global};
 
@@ -102,6 +102,9 @@ fn push_replaced<S: Substitution>(
 fn text_for<'s, S: Substitution>(substitution: &'s S, run: &[u8]) -> Option<&'s [u8]>
     ensures { option_map (λ text. text.now) result ≡ text_for (S.pairs substitution.now) run.now }
 {
+    if !begins_name(run) {
+        return None;
+    }
     match Name::read(run) {
         Some(name) => substitution.text_of(name),
         None => None,

@@ -101,7 +101,7 @@ impl Name {
     pub fn read(text: &[u8]) -> Option<Name>
         ensures { result ≡ name_of text.now }
     {
-        if text.len() > LONGEST || !begins_name(text) {
+        if text.len() > LONGEST {
             return None;
         }
         let bytes = padded(text);
@@ -159,7 +159,7 @@ impl Name {
 
 /// Whether a text begins as a name does.
 #[inline(always)]
-fn begins_name(text: &[u8]) -> bool
+pub(crate) fn begins_name(text: &[u8]) -> bool
     ensures { result ≡ begins_name text.now }
 {
     match text {
