@@ -3,9 +3,12 @@ use Rattle.std.specs.Prelude.{ℕ, ◌*◌, ◌%◌, ◌^◌, ◌<◌, ◌≤◌
 use Rattle.cps_text.specs.declared.name.Name.{Name}
 use Rattle.cps_expr.specs.declared.machine.Machine.{Machine}
 use Rattle.cps_expr.specs.declared.machine.Machine.TheVariants.{Cp}
-use Rattle.cps_expr.specs.Expression.{names_of}
+use Rattle.cps_expr.specs.Expression.{Expression}
 use Rattle.cps_expr.specs.Item.{bits_of}
 use Rattle.cps_expr.specs.Value.{IsInRange}
+use Rattle.cps_code.specs.declared.hole.Hole.{Hole}
+use Rattle.cps_code.specs.declared.hole.HoleKind.TheVariants as kind
+use Rattle.cps_code.specs.declared.hole.Operand.TheVariants as operand
 use Rattle.cps_code.specs.Image.{Piece}
 use Rattle.cps_code.specs.Operand.{operand_names, operand_literals}
 use Rattle.cps_state.specs.declared.flags.Flags.{Flags}
@@ -52,9 +55,9 @@ no_flags = record { operand = false; twice = false; structure = false; location 
 -- how many bits a content has; a value whose width is none has no bits
 abbrev pub width_of : Content → ℕ
 width_of (Instruction form) = form.bits
-width_of (Value width expression) = width
+width_of (Value hole) = hole.width
 width_of (Number width number) = width
-width_of (Unsized expression) = 0
+width_of (Unsized hole) = 0
 
 -- the place after contents that stand one after another
 abbrev pub end_of : Machine → ℕ → List Content → ℕ
@@ -63,25 +66,30 @@ end_of machine at (content ∷ contents) = end_of machine (behind machine at (wi
 
 -- ---- what contents name
 
+-- a hole of so many bits for the value of an expression, by itself
+abbrev pub field_hole : ℕ → Expression → Hole
+field_hole width value = record { first = 0; width = width; kind = kind.Value; operand = operand.Expression value }
+
+-- the holes that a content fills under the final values, in their order
+abbrev pub holes_of : Content → List Hole
+holes_of (Instruction form) = form.holes
+holes_of (Value hole) = hole ∷ []
+holes_of (Number width number) = []
+holes_of (Unsized hole) = hole ∷ []
+
 -- the symbols that the expressions of a content read
 abbrev pub content_names : Content → List Name
-content_names (Instruction form) = flat_map (λ hole. operand_names hole.operand) form.holes
-content_names (Value width terms) = names_of terms
-content_names (Number width number) = []
-content_names (Unsized terms) = names_of terms
+content_names content = flat_map (λ hole. operand_names hole.operand) (holes_of content)
 
 -- the words of the literals that it names
 abbrev pub content_literals : Content → List ℕ
-content_literals (Instruction form) = flat_map (λ hole. operand_literals hole.operand) form.holes
-content_literals (Value width terms) = []
-content_literals (Number width number) = []
-content_literals (Unsized terms) = []
+content_literals content = flat_map (λ hole. operand_literals hole.operand) (holes_of content)
 
 -- ---- what each statement keeps
 
 -- values and numbers have 60 bits at most, and a number fits its bits
 abbrev pub IsContent : Content → Type 0
-IsContent (Value width expression) = (0 < width) × (width ≤ 60)
+IsContent (Value hole) = (0 < hole.width) × (hole.width ≤ 60)
 IsContent (Number width number) = (0 < width) × (width ≤ 60) × (number < 2 ^ width)
 IsContent _ = Unit {0}
 

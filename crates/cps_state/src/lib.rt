@@ -59,7 +59,7 @@ pub use key::{
 };
 pub use lookup::Lookup;
 pub use machines::{WORD, behind, limit_of, word_bits};
-pub use made::{Begun, Content, Made, SetValue, Shown, end_of};
+pub use made::{Begun, Content, Made, SetValue, Shown, end_of, field_hole};
 pub use recorder::Recorder;
 pub use scratch::Scratch;
 pub use shared::Shared;

@@ -5,28 +5,41 @@ ghost use Rattle.cps_code.specs.Image.{piece_of};
 ghost use Rattle.cps_expr.specs.Item.{bits_of};
 ghost use Rattle.cps_state.specs.Flags.{joined};
 ghost use Rattle.cps_state.specs.Machines.{limit};
-ghost use Rattle.cps_state.specs.Made.{nothing_made, width_of, end_of, IsContent, IsHeld, HaveRoom};
+ghost use Rattle.cps_state.specs.Made.{nothing_made, field_hole, holes_of, width_of, end_of, IsContent, IsHeld, HaveRoom};
 
 use crate::contents::Contents;
 use crate::flags::Flags;
 use crate::instruction::InstructionForm;
 use crate::machines::{WORD, behind, limit_of};
-use cps_code::Piece;
+use cps_code::{Hole, HoleKind, Operand, Piece};
 use cps_expr::{Expr, Machine, Value};
 use cps_text::Name;
 use std::marker::Model;
+use std::slice::from_ref;
 
 /// What stands in bits of a statement that are told as one.
 #[derive(Drop)]
 pub enum Content {
     /// An instruction.
     Instruction(InstructionForm),
-    /// The value of an expression in so many bits.
-    Value(u8, Expr),
+    /// A value, in the bits of its hole.
+    Value(Hole),
     /// A number of so many bits.
     Number(u8, u64),
-    /// The value of an expression whose width is none. It is no bits.
-    Unsized(Expr),
+    /// A value whose width is none: its hole has no bits.
+    Unsized(Hole),
+}
+
+/// A hole of so many bits for the value of an expression, by itself.
+pub fn field_hole(width: u8, value: Expr) -> Hole
+    ensures { result ≡ field_hole width value }
+{
+    Hole {
+        first: 0,
+        width,
+        kind: HoleKind::Value,
+        operand: Operand::Expression(value),
+    }
 }
 
 impl Content {
@@ -37,9 +50,21 @@ impl Content {
     {
         match self {
             Content::Instruction(form) => form.bits(),
-            Content::Value(width, _) => *width,
+            Content::Value(hole) => hole.width,
             Content::Number(width, _) => *width,
             Content::Unsized(_) => 0,
+        }
+    }
+
+    /// The holes that it fills under the final values, in their order.
+    pub fn holes(&self) -> &[Hole]
+        ensures { result.now ≡ holes_of self.now }
+    {
+        match self {
+            Content::Instruction(form) => form.holes(),
+            Content::Value(hole) => from_ref(hole),
+            Content::Number(..) => &[],
+            Content::Unsized(hole) => from_ref(hole),
         }
     }
 }
