@@ -30,7 +30,7 @@ use Rattle.cps_state.specs.Machines.{limit, behind}
 use Rattle.cps_state.specs.Made.{no_flags, width_of, end_of, content_names, content_literals}
 use Rattle.cps_final.specs.declared.row.Row.{Row}
 use Rattle.cps_final.specs.Finals.{block, label, literal}
-use Rattle.cps_final.specs.Values.{Resolved, address_of, address_in, final_of, values_in, Known, known_in, PlacedStatement, placed_statement, plain_offset, value_at, number_at, expression_flags, operand_number, is_valueless, reads_undefined, number_for, form_number, form_flags, number_of, value_flags, first_address}
+use Rattle.cps_final.specs.Values.{Resolved, address_of, address_in, final_of, values_in, Known, known_in, PlacedStatement, placed_statement, plain_offset, value_at, number_at, operand_number, operand_flags, is_valueless, reads_undefined, number_for, form_number, form_flags, number_of, value_flags, first_address}
 use Rattle.cps_final.specs.Places.{with_places}
 use Rattle.cps_final.specs.Rows.{limit_flags, literal_flags, digits_for, first_digits, second_digits, blank_row, row_at, later_rows, content_rows, with_contents, statement_row, rows_with, rows_made, row_of, rows_of}
 use Rattle.cps_final.specs.Pieces.{pieces_at, last_word, zeros_at, placed, content_bits, contents_of, pieces_of}
@@ -75,9 +75,6 @@ module _ (o f : Known) (here : ℕ) where
   number_at-same : (terms : Expression) → Same (names_of terms) → number_at o.symbols here terms ≡ number_at f.symbols here terms
   number_at-same terms agree = ap (λ (v : Option ℤ). unwrap_or v (pos 0)) (at-same terms agree)
 
-  expression-same : (terms : Expression) → Same (names_of terms) → expression_flags o.symbols here terms ≡ expression_flags f.symbols here terms
-  expression-same terms agree = λ i. record no_flags { operand = is_none (at-same terms agree i); undefined = undefined-alone o.symbols f.symbols terms agree i }
-
   operand-same : (x : Operand) → Same (operand_names x) → SameWords (operand_literals x) → operand_number o here x ≡ operand_number f here x
   operand-same (operand.Expression terms) agree stand = number_at-same terms agree
   operand-same (operand.Literal word) agree stand = ap pos (all-head (λ (w : ℕ). o.literals w ≡ f.literals w) word [] stand)
@@ -89,6 +86,16 @@ module _ (o f : Known) (here : ℕ) where
   undefined-same : (x : Operand) → Same (operand_names x) → reads_undefined o x ≡ reads_undefined f x
   undefined-same (operand.Expression terms) agree = undefined-alone o.symbols f.symbols terms agree
   undefined-same (operand.Literal word) agree = refl
+
+  -- a hole by itself
+  alone-same : (hole : Hole) → Same (names (hole ∷ [])) → SameWords (words (hole ∷ [])) → operand_number o here hole.operand ≡ operand_number f here hole.operand
+  alone-same hole agree stand =
+      operand-same hole.operand (names-split (operand_names hole.operand) [] agree).0 (words-split (operand_literals hole.operand) [] stand).0
+
+  alone-flags : (hole : Hole) → Same (names (hole ∷ [])) → operand_flags o here hole.operand ≡ operand_flags f here hole.operand
+  alone-flags hole agree =
+      let own = (names-split (operand_names hole.operand) [] agree).0 in
+      λ i. record no_flags { operand = valueless-same hole.operand own i; undefined = undefined-same hole.operand own i }
 
   numbers-same : (holes : List Hole) → Same (names holes) → SameWords (words holes)
       → map (λ hole. number_for hole.kind here (operand_number o here hole.operand)) holes ≡ map (λ hole. number_for hole.kind here (operand_number f here hole.operand)) holes
@@ -117,16 +124,16 @@ module _ (o f : Known) (here : ℕ) where
 
   number-same : (c : Content) → Same (content_names c) → SameWords (content_literals c) → number_of o here c ≡ number_of f here c
   number-same (content.Instruction form) agree stand = form_number-same form agree stand
-  number-same (content.Value width terms) agree stand = ap (put_value width) (number_at-same terms agree)
+  number-same (content.Value hole) agree stand = ap (put_value hole.width) (alone-same hole agree stand)
   number-same (content.Number width number) agree stand = refl
-  number-same (content.Unsized terms) agree stand = refl
+  number-same (content.Unsized hole) agree stand = refl
 
   flags-same : (c : Content) → Same (content_names c) → SameWords (content_literals c) → value_flags o here c ≡ value_flags f here c
   flags-same (content.Instruction form) agree stand = form_flags-same form agree stand
-  flags-same (content.Value width terms) agree stand =
-      λ i. record (expression-same terms agree i) { cut = not (fits_width width (number_at-same terms agree i)) }
+  flags-same (content.Value hole) agree stand =
+      λ i. record (alone-flags hole agree i) { cut = not (fits_width hole.width (alone-same hole agree stand i)) }
   flags-same (content.Number width number) agree stand = refl
-  flags-same (content.Unsized terms) agree stand = expression-same terms agree
+  flags-same (content.Unsized hole) agree stand = alone-flags hole agree
 
   far-same : (machine : Machine) (ws : List ℕ) → SameWords ws → list_any (λ word. nat_le (limit machine) (o.literals word)) ws ≡ list_any (λ word. nat_le (limit machine) (f.literals word)) ws
   far-same machine [] stand = refl

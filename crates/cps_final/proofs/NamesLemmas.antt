@@ -5,25 +5,26 @@ use Rattle.std.specs.Cmp.{IsEquivalence}
 use Rattle.std.specs.List.{list_all, list_any}
 use Rattle.std.specs.Option.{option_eq}
 use Rattle.std.proofs.lemmas.Bool.{eqb-true}
-use Rattle.std.proofs.lemmas.Grind.{flat_map-append}
 use Rattle.std.proofs.lemmas.List.{take_all}
 use Rattle.indexmap.specs.IndexSet.{insert_all}
 use Rattle.cps_text.specs.declared.name.Name.{Name}
 use Rattle.cps_expr.specs.Value.{same_name}
+use Rattle.cps_code.specs.declared.hole.Hole.{Hole}
+use Rattle.cps_code.specs.Operand.{operand_names}
 use Rattle.cps_state.specs.declared.item.Item.{Item}
 use Rattle.cps_state.specs.declared.made.Content.{Content}
 use Rattle.cps_state.specs.declared.made.SetValue.{SetValue}
 use Rattle.cps_state.specs.Course.{Trace}
-use Rattle.cps_state.specs.Made.{Made, content_names}
+use Rattle.cps_state.specs.Made.{Made, holes_of, content_names}
 use Rattle.cps_final.specs.Distinct.{distinct}
 use Rattle.cps_final.specs.Finals.{label, block, literal}
 use Rattle.cps_final.specs.Outcome.{labels_read, blocks_named}
 use Rattle.cps_final.specs.Pool.{literals_of}
 use Rattle.cps_final.proofs.GatherLemmas.{distinct-append}
-use Rattle.cps_final.proofs.NamingLemmas.{flat-all}
+use Rattle.cps_final.proofs.NamingLemmas.{flat-all, flat-flat, and-four}
 use Rattle.cps_final.proofs.DecideLemmas.{name-decides, option-decides}
 use Rattle.cps_final.specs.NamedFinals.{statements_of, NamesLaw, labels_named, all_blocks_named, literals_named}
-use Rattle.cps_final.specs.Code.NamesGathering.{label_of}
+use Rattle.cps_final.specs.Code.NamesGathering.{label_of, hole_labels, contents_labels}
 
 -- ---- a test of each once
 
@@ -54,12 +55,6 @@ once-each eq is p f xs = once-all eq is p (flat_map f xs) ∙ sym (flat-all p f 
 
 -- ---- three tests at once
 
-and-four : (a b c d : Bool) → ((a && b) && (c && d)) ≡ ((a && c) && (b && d))
-and-four false b c d = refl
-and-four true b true d = refl
-and-four true true false d = refl
-and-four true false false d = refl
-
 all-three : {X : Type 0} (a b c : X → Bool) (xs : List X) → (list_all a xs && (list_all b xs && list_all c xs)) ≡ list_all (λ x. a x && (b x && c x)) xs
 all-three a b c [] = refl
 all-three a b c (x ∷ xs) =
@@ -82,10 +77,6 @@ names-law passes traces =
 
 -- ---- what is found
 
-pub flat-flat : {X Y Z : Type 0} (f : Y → List Z) (g : X → List Y) (xs : List X) → flat_map (λ x. flat_map f (g x)) xs ≡ flat_map f (flat_map g xs)
-flat-flat f g [] = refl
-flat-flat f g (x ∷ xs) = ap (λ l. flat_map f (g x) ++ l) (flat-flat f g xs) ∙ sym (flat_map-append f (g x) (flat_map g xs))
-
 -- the symbols that stand for their labels
 labels-free : (held : List SetValue) (names : List Name) → flat_map (label_of held) names ≡ filter (λ name. not (list_any (λ set. same_name set.name name) held)) names
 labels-free held [] = refl
@@ -99,10 +90,15 @@ labels-free held (name ∷ names) = at (list_any (λ set. same_name set.name nam
 
 -- those of a statement, by its contents
 pub labels-made : (made : Made) (held : List SetValue) (contents : List Content) → held ≡ made.held → contents ≡ made.contents
-    → flat_map (λ content. flat_map (label_of held) (content_names content)) contents ≡ labels_read made
+    → contents_labels held contents ≡ labels_read made
 labels-made made held contents are_held are_contents =
-    (λ i. flat_map (λ content. flat_map (label_of (are_held i)) (content_names content)) (are_contents i))
-    ∙ flat-flat (label_of made.held) content_names made.contents ∙ labels-free made.held (flat_map content_names made.contents)
+    let free : Name → List Name = label_of made.held in
+    let names : Hole → List Name = λ hole. operand_names hole.operand in
+    (λ i. contents_labels (are_held i) (are_contents i))
+    ∙ flat-flat (hole_labels made.held) holes_of made.contents
+    ∙ flat-flat free names (flat_map holes_of made.contents)
+    ∙ ap (flat_map free) (sym (flat-flat names holes_of made.contents))
+    ∙ labels-free made.held (flat_map content_names made.contents)
 
 -- what each line gave, inserted one after another into none, where all of them were gone through
 pub once-made : {T : Type 0} (eq : T → T → Bool) → IsEquivalence eq → (f : Item → List T) (traces : List Trace) (i : ℕ) (found : List T) → length traces ≤ i

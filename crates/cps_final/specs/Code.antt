@@ -8,5 +8,6 @@ pub mod Kept
 pub mod FinalsPatch
 pub mod NamesGathering
 pub mod NamesKept
+pub mod NamesPassing
 pub mod RunGathering
 pub mod Storage

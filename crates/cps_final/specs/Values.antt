@@ -36,10 +36,6 @@ value_at symbols here terms = plain_offset (value_in symbols (plain (pos here)) 
 abbrev pub number_at : Values → ℕ → Expression → ℤ
 number_at symbols here terms = unwrap_or (value_at symbols here terms) (pos 0)
 
--- the flags that an expression gives, whatever its width
-abbrev pub expression_flags : Values → ℕ → Expression → Flags
-expression_flags symbols here terms = record no_flags { operand = is_none (value_at symbols here terms); undefined = has_undefined symbols terms }
-
 -- a literal stands for the address of its word
 abbrev pub operand_number : Known → ℕ → Operand → ℤ
 operand_number known here (operand.Expression terms) = number_at known.symbols here terms
@@ -80,13 +76,13 @@ form_flags known here form = record no_flags {
 
 abbrev pub number_of : Known → ℕ → Content → ℕ
 number_of known here (content.Instruction form) = form_number known here form
-number_of known here (content.Value width terms) = put_value width (number_at known.symbols here terms)
+number_of known here (content.Value hole) = put_value hole.width (operand_number known here hole.operand)
 number_of known here (content.Number width number) = number
-number_of known here (content.Unsized terms) = 0
+number_of known here (content.Unsized hole) = 0
 
 abbrev pub value_flags : Known → ℕ → Content → Flags
 value_flags known here (content.Instruction form) = form_flags known here form
-value_flags known here (content.Value width terms) =
-    record (expression_flags known.symbols here terms) { cut = not (fits_width width (number_at known.symbols here terms)) }
+value_flags known here (content.Value hole) =
+    record (operand_flags known here hole.operand) { cut = not (fits_width hole.width (operand_number known here hole.operand)) }
 value_flags known here (content.Number width number) = no_flags
-value_flags known here (content.Unsized terms) = expression_flags known.symbols here terms
+value_flags known here (content.Unsized hole) = operand_flags known here hole.operand

@@ -1,12 +1,10 @@
 //! The symbols that a line reads, and those that it defines.
 ghost use Rattle.std.specs.Prelude.{◌≡◌, ◌++◌, flat_map, OnOk};
-ghost use Rattle.cps_code.specs.Operand.{operand_names};
 ghost use Rattle.cps_expr.specs.Value.{same_name};
 ghost use Rattle.cps_state.specs.Made.{content_names};
 ghost use Rattle.cps_final.specs.LineNames.{names_later, symbol_put};
 ghost use Rattle.indexmap.specs.IndexSet.{insert_all};
 
-use cps_code::Hole;
 use cps_state::{Content, Hashing, Item, Key, Put};
 use cps_text::Name;
 use indexmap::IndexSet;
@@ -81,27 +79,9 @@ fn insert_contents_names<S: NameSet>(names: &mut S, contents: &[Content]) -> Res
     ensures { OnOk result (S.names names.new ≡ insert_all same_name (S.names names.old) (flat_map content_names contents.now)) }
 {
     for content in contents {
-        insert_content_names(names, content)?;
-    }
-    Ok(())
-}
-
-fn insert_content_names<S: NameSet>(names: &mut S, content: &Content) -> Result<(), AllocError>
-    ensures { OnOk result (S.names names.new ≡ insert_all same_name (S.names names.old) (content_names content.now)) }
-{
-    match content {
-        Content::Instruction(form) => insert_hole_names(names, form.holes()),
-        Content::Value(_, expression) => insert_names(names, expression.names()),
-        Content::Number(..) => Ok(()),
-        Content::Unsized(expression) => insert_names(names, expression.names()),
-    }
-}
-
-fn insert_hole_names<S: NameSet>(names: &mut S, holes: &[Hole]) -> Result<(), AllocError>
-    ensures { OnOk result (S.names names.new ≡ insert_all same_name (S.names names.old) (flat_map (λ hole. operand_names hole.operand) holes.now)) }
-{
-    for hole in holes {
-        insert_names(names, hole.operand.names())?;
+        for hole in content.holes() {
+            insert_names(names, hole.operand.names())?;
+        }
     }
     Ok(())
 }

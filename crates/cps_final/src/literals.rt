@@ -4,7 +4,7 @@ ghost use Rattle.cps_code.specs.Operand.{operand_literals};
 ghost use Rattle.cps_state.specs.Made.{content_literals};
 ghost use Rattle.cps_final.specs.Pool.{literals_among};
 
-use cps_code::{Hole, Operand};
+use cps_code::Operand;
 use cps_state::{Content, Item};
 use std::alloc::{AllocError, Global};
 
@@ -23,25 +23,9 @@ fn push_contents_literals(literals: &mut Vec<u64>, contents: &[Content]) -> Resu
     ensures { OnOk result (literals.new.items ≡ literals.old.items ++ flat_map content_literals contents.now) }
 {
     for content in contents {
-        push_content_literals(literals, content)?;
-    }
-    Ok(())
-}
-
-fn push_content_literals(literals: &mut Vec<u64>, content: &Content) -> Result<(), AllocError>
-    ensures { OnOk result (literals.new.items ≡ literals.old.items ++ content_literals content.now) }
-{
-    match content {
-        Content::Instruction(form) => push_hole_literals(literals, form.holes()),
-        Content::Value(..) | Content::Number(..) | Content::Unsized(_) => Ok(()),
-    }
-}
-
-fn push_hole_literals(literals: &mut Vec<u64>, holes: &[Hole]) -> Result<(), AllocError>
-    ensures { OnOk result (literals.new.items ≡ literals.old.items ++ flat_map (λ hole. operand_literals hole.operand) holes.now) }
-{
-    for hole in holes {
-        push_literal(literals, &hole.operand)?;
+        for hole in content.holes() {
+            push_literal(literals, &hole.operand)?;
+        }
     }
     Ok(())
 }

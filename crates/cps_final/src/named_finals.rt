@@ -2,18 +2,15 @@
 ghost use Rattle.std.specs.Prelude.{◌≡◌, [], flat_map, map, nat_eq, IfOk, OnOk};
 ghost use Rattle.std.specs.List.{list_all, list_any};
 ghost use Rattle.std.specs.Option.{option_eq};
-ghost use Rattle.cps_code.specs.Operand.{operand_names};
 ghost use Rattle.cps_expr.specs.Value.{same_name};
-ghost use Rattle.cps_state.specs.Made.{content_names};
 ghost use Rattle.cps_final.specs.Finals.{label, block as block_named, literal};
 ghost use Rattle.cps_final.specs.Outcome.{labels_read, blocks_named, blocks_shown, blocks_stood};
 ghost use Rattle.cps_final.specs.NamedFinals.{statements_of, names_in, labels_named, all_blocks_named, literals_named, all_pass};
-ghost use Rattle.cps_final.specs.Code.NamesGathering.{label_of};
+ghost use Rattle.cps_final.specs.Code.NamesGathering.{label_of, contents_labels};
 ghost use Rattle.indexmap.specs.IndexSet.{insert_all, insert_key};
 
 use crate::literals::list_literals;
 use crate::naming::Naming;
-use cps_code::Hole;
 use cps_expr::is_same_name;
 use cps_state::{Content, Hashing, Item, Made, SetValue, Shown, Stand, Trace};
 use cps_text::Name;
@@ -157,38 +154,12 @@ fn insert_contents_labels(
     held: &[SetValue],
     contents: &[Content],
 ) -> Result<(), AllocError>
-    ensures { OnOk result (found.new.keys ≡ insert_all same_name found.old.keys (flat_map (λ content. flat_map (label_of held.now) (content_names content)) contents.now)) }
+    ensures { OnOk result (found.new.keys ≡ insert_all same_name found.old.keys (contents_labels held.now contents.now)) }
 {
     for content in contents {
-        insert_content_labels(found, held, content)?;
-    }
-    Ok(())
-}
-
-fn insert_content_labels(
-    found: &mut FoundSet<Name>,
-    held: &[SetValue],
-    content: &Content,
-) -> Result<(), AllocError>
-    ensures { OnOk result (found.new.keys ≡ insert_all same_name found.old.keys (flat_map (label_of held.now) (content_names content.now))) }
-{
-    match content {
-        Content::Instruction(form) => insert_hole_labels(found, held, form.holes()),
-        Content::Value(_, expression) => insert_free(found, held, expression.names()),
-        Content::Number(..) => Ok(()),
-        Content::Unsized(expression) => insert_free(found, held, expression.names()),
-    }
-}
-
-fn insert_hole_labels(
-    found: &mut FoundSet<Name>,
-    held: &[SetValue],
-    holes: &[Hole],
-) -> Result<(), AllocError>
-    ensures { OnOk result (found.new.keys ≡ insert_all same_name found.old.keys (flat_map (λ hole. flat_map (label_of held.now) (operand_names hole.operand)) holes.now)) }
-{
-    for hole in holes {
-        insert_free(found, held, hole.operand.names())?;
+        for hole in content.holes() {
+            insert_free(found, held, hole.operand.names())?;
+        }
     }
     Ok(())
 }

@@ -1,16 +1,15 @@
 //! What statements name for pass two, and a test of each such name.
-ghost use Rattle.std.specs.Prelude.{◌≡◌, ◌||◌};
+ghost use Rattle.std.specs.Prelude.{◌≡◌};
 ghost use Rattle.std.specs.List.{list_all, list_any};
-ghost use Rattle.cps_code.specs.Operand.{operand_names, operand_literals};
 ghost use Rattle.cps_expr.specs.Value.{same_name};
-ghost use Rattle.cps_state.specs.Made.{content_names, content_literals};
-ghost use Rattle.cps_final.specs.Finals.{label, block as block_named, literal};
+ghost use Rattle.cps_final.specs.Finals.{block as block_named};
 ghost use Rattle.cps_final.specs.Outcome.{blocks_named, blocks_shown, blocks_stood};
 ghost use Rattle.cps_final.specs.Naming.{all_named};
+ghost use Rattle.cps_final.specs.Code.NamesPassing.{name_passes, operand_passes, hole_passes, contents_pass};
 
 use cps_code::{Hole, Operand};
 use cps_expr::is_same_name;
-use cps_state::{Content, Item, Made, SetValue, Shown, Stand};
+use cps_state::{Item, Made, SetValue, Shown, Stand};
 use cps_text::Name;
 
 /// A test of what can be named.
@@ -43,48 +42,43 @@ pub fn all_pass<N: Naming>(items: &[Item], naming: &N) -> bool
 fn item_passes<N: Naming>(item: &Item, naming: &N) -> bool
     ensures { result ≡ all_named (N.passes naming.now) item.now }
 {
-    if !labels_pass(&item.made, naming) {
+    if !contents_pass(&item.made, naming) {
         return false;
     }
-    if !blocks_pass(item, naming) {
-        return false;
-    }
-    literals_pass(item.made.contents(), naming)
+    blocks_pass(item, naming)
 }
 
-// ---- labels
+// ---- contents
 
-/// Whether the symbols that contents read pass, but for those that SET had given a value.
-fn labels_pass<N: Naming>(made: &Made, naming: &N) -> bool
-    ensures { result ≡ list_all (λ content. list_all (λ name. list_any (λ set. same_name set.name name) made.now.held || N.passes naming.now (label name)) (content_names content)) made.now.contents }
+/// Whether what contents name passes, but for the symbols that SET had given a value.
+fn contents_pass<N: Naming>(made: &Made, naming: &N) -> bool
+    ensures { result ≡ contents_pass (N.passes naming.now) made.now.held made.now.contents }
 {
     let held = made.held();
     made.contents()
         .iter()
-        .all(|content| content_labels_pass(held, content, naming))
+        .all(|content| holes_pass(held, content.holes(), naming))
 }
 
-fn content_labels_pass<N: Naming>(held: &[SetValue], content: &Content, naming: &N) -> bool
-    ensures { result ≡ list_all (λ name. list_any (λ set. same_name set.name name) held.now || N.passes naming.now (label name)) (content_names content.now) }
-{
-    match content {
-        Content::Instruction(form) => hole_labels_pass(held, form.holes(), naming),
-        Content::Value(_, expression) => names_pass(held, expression.names(), naming),
-        Content::Number(..) => true,
-        Content::Unsized(expression) => names_pass(held, expression.names(), naming),
-    }
-}
-
-fn hole_labels_pass<N: Naming>(held: &[SetValue], holes: &[Hole], naming: &N) -> bool
-    ensures { result ≡ list_all (λ hole. list_all (λ name. list_any (λ set. same_name set.name name) held.now || N.passes naming.now (label name)) (operand_names hole.operand)) holes.now }
+fn holes_pass<N: Naming>(held: &[SetValue], holes: &[Hole], naming: &N) -> bool
+    ensures { result ≡ list_all (hole_passes (N.passes naming.now) held.now) holes.now }
 {
     holes
         .iter()
-        .all(|hole| names_pass(held, hole.operand.names(), naming))
+        .all(|hole| operand_passes(held, &hole.operand, naming))
+}
+
+fn operand_passes<N: Naming>(held: &[SetValue], operand: &Operand, naming: &N) -> bool
+    ensures { result ≡ operand_passes (N.passes naming.now) held.now operand.now }
+{
+    match operand {
+        Operand::Expression(expression) => names_pass(held, expression.names(), naming),
+        Operand::Literal(word) => naming.literal(*word),
+    }
 }
 
 fn names_pass<N: Naming>(held: &[SetValue], names: &[Name], naming: &N) -> bool
-    ensures { result ≡ list_all (λ name. list_any (λ set. same_name set.name name) held.now || N.passes naming.now (label name)) names.now }
+    ensures { result ≡ list_all (name_passes (N.passes naming.now) held.now) names.now }
 {
     names
         .iter()
@@ -130,40 +124,4 @@ fn held_pass<N: Naming>(held: &[SetValue], naming: &N) -> bool
     ensures { result ≡ list_all (λ set. N.passes naming.now (block_named set.value.block)) held.now }
 {
     held.iter().all(|set| naming.block(set.value.block))
-}
-
-// ---- literals
-
-fn literals_pass<N: Naming>(contents: &[Content], naming: &N) -> bool
-    ensures { result ≡ list_all (λ content. list_all (λ word. N.passes naming.now (literal word)) (content_literals content)) contents.now }
-{
-    contents
-        .iter()
-        .all(|content| content_literals_pass(content, naming))
-}
-
-fn content_literals_pass<N: Naming>(content: &Content, naming: &N) -> bool
-    ensures { result ≡ list_all (λ word. N.passes naming.now (literal word)) (content_literals content.now) }
-{
-    match content {
-        Content::Instruction(form) => hole_literals_pass(form.holes(), naming),
-        Content::Value(..) | Content::Number(..) | Content::Unsized(_) => true,
-    }
-}
-
-fn hole_literals_pass<N: Naming>(holes: &[Hole], naming: &N) -> bool
-    ensures { result ≡ list_all (λ hole. list_all (λ word. N.passes naming.now (literal word)) (operand_literals hole.operand)) holes.now }
-{
-    holes
-        .iter()
-        .all(|hole| literal_passes(&hole.operand, naming))
-}
-
-fn literal_passes<N: Naming>(operand: &Operand, naming: &N) -> bool
-    ensures { result ≡ list_all (λ word. N.passes naming.now (literal word)) (operand_literals operand.now) }
-{
-    match operand {
-        Operand::Literal(word) => naming.literal(*word),
-        Operand::Expression(_) => true,
-    }
 }

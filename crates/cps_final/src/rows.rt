@@ -120,10 +120,7 @@ fn literal_flags(content: &Content, statement: &PlacedStatement) -> Flags
     ensures { result ≡ shown.literal_flags (view_of statement.now).known.literals (view_of statement.now).machine content.now }
 {
     let mut flags = Flags::none();
-    flags.structure = match content {
-        Content::Instruction(form) => has_far_literal(form.holes(), statement),
-        _ => false,
-    };
+    flags.structure = has_far_literal(content.holes(), statement);
     flags
 }
 

@@ -1,8 +1,9 @@
 //! Contents with the final values of their expressions.
-ghost use Rattle.std.specs.Prelude.{◌≡◌, ◌<◌, ◌≤◌, ◌^◌, ◌||◌, not, IfSome};
-ghost use Rattle.cps_code.specs.Form.{put_value, fits_width};
+ghost use Rattle.std.specs.Prelude.{◌≡◌, ◌<◌, ◌≤◌, ◌^◌, ◌||◌, IfSome};
 ghost use Rattle.cps_code.specs.Value.{IsInRange};
+ghost use Rattle.cps_code.specs.declared.hole.Operand.TheVariants as operand;
 ghost use Rattle.cps_expr.specs.Value as ranges;
+ghost use Rattle.cps_state.specs.declared.made.Content.TheVariants as content;
 ghost use Rattle.cps_state.specs.Made.{width_of, IsContent};
 ghost use Rattle.cps_final.specs.Resolving.{view_of};
 ghost use Rattle.cps_final.specs.Values as values;
@@ -44,32 +45,31 @@ pub fn value_content(content: &Content, statement: &PlacedStatement) -> ContentN
 {
     match content {
         Content::Instruction(form) => value_instruction(form, statement),
-        Content::Value(width, expression) => value_in(*width, expression, statement),
+        Content::Value(hole) => value_in(hole, statement),
         Content::Number(_, number) => ContentNumber {
             number: *number,
             flags: Flags::none(),
         },
-        Content::Unsized(expression) => ContentNumber {
+        Content::Unsized(hole) => ContentNumber {
             number: 0,
-            flags: value_of(expression, statement).flags,
+            flags: value_operand(&hole.operand, statement).flags,
         },
     }
 }
 
-/// The value of an expression in so many bits.
-fn value_in(width: u8, expression: &Expr, statement: &PlacedStatement) -> ContentNumber
-    requires some { 0 < width }
-    requires few { width ≤ 60 }
-    ensures number { result.number ≡ put_value width (values.number_at (view_of statement.now).known.symbols (view_of statement.now).here expression.now) }
-    ensures flags { result.flags ≡ record (values.expression_flags (view_of statement.now).known.symbols (view_of statement.now).here expression.now)
-        { cut = not (fits_width width (values.number_at (view_of statement.now).known.symbols (view_of statement.now).here expression.now)) } }
-    ensures fits { result.number < 2 ^ width }
+/// A value in the bits of its hole.
+fn value_in(hole: &Hole, statement: &PlacedStatement) -> ContentNumber
+    requires some { 0 < hole.now.width }
+    requires few { hole.now.width ≤ 60 }
+    ensures number { result.number ≡ values.number_of (view_of statement.now).known (view_of statement.now).here (content.Value hole.now) }
+    ensures flags { result.flags ≡ values.value_flags (view_of statement.now).known (view_of statement.now).here (content.Value hole.now) }
+    ensures fits { result.number < 2 ^ hole.now.width }
 {
-    let value = value_of(expression, statement);
+    let value = value_operand(&hole.operand, statement);
     let mut flags = value.flags;
-    flags.cut = !fits_width(value.number, width);
+    flags.cut = !fits_width(value.number, hole.width);
     ContentNumber {
-        number: bits_of_value(value.number, width),
+        number: bits_of_value(value.number, hole.width),
         flags,
     }
 }
@@ -146,7 +146,7 @@ fn value_operand(operand: &Operand, statement: &PlacedStatement) -> ExpressionNu
 #[inline(always)]
 fn value_of(expression: &Expr, statement: &PlacedStatement) -> ExpressionNumber
     ensures number { result.number ≡ values.number_at (view_of statement.now).known.symbols (view_of statement.now).here expression.now }
-    ensures flags { result.flags ≡ values.expression_flags (view_of statement.now).known.symbols (view_of statement.now).here expression.now }
+    ensures flags { result.flags ≡ values.operand_flags (view_of statement.now).known (view_of statement.now).here (operand.Expression expression.now) }
     ensures range { IsInRange result.number }
 {
     let valued = statement.value(expression);
