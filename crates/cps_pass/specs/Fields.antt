@@ -10,7 +10,7 @@ use Rattle.cps_state.specs.declared.made.Content.{Content}
 use Rattle.cps_state.specs.declared.made.Content.TheVariants as content
 use Rattle.cps_state.specs.Course.{Part}
 use Rattle.cps_state.specs.Flags.{joined}
-use Rattle.cps_state.specs.Made.{no_flags, width_of}
+use Rattle.cps_state.specs.Made.{no_flags, field_hole, width_of}
 use Rattle.cps_pass.specs.declared.placing.Site.{Site}
 use Rattle.cps_pass.specs.declared.reading.Location.{Location}
 use Rattle.cps_pass.specs.declared.value_now.ValueNow.{ValueNow}
@@ -28,8 +28,8 @@ width_in value = between 1 60 (plain_number value)
 
 -- None: the width is none
 abbrev pub field_with : Expression → Option ℕ → Content
-field_with value None = content.Unsized value
-field_with value (Some width) = content.Value width value
+field_with value None = content.Unsized (field_hole 0 value)
+field_with value (Some width) = content.Value (field_hole width value)
 
 -- U for an undefined name, A where there is no value, V for another value
 abbrev pub width_flags : ValueNow → Option ℕ → Flags

@@ -11,6 +11,7 @@ use Rattle.cps_state.specs.declared.key.Control.{Control}
 use Rattle.cps_state.specs.declared.made.Content.{Content}
 use Rattle.cps_state.specs.declared.made.Content.TheVariants as content
 use Rattle.cps_state.specs.Course.{Part}
+use Rattle.cps_state.specs.Made.{field_hole}
 use Rattle.cps_pass.specs.declared.placing.Site.{Site}
 use Rattle.cps_pass.specs.declared.reading.Location.{Location}
 use Rattle.cps_pass.specs.declared.value_now.ValueNow.{ValueNow}
@@ -33,7 +34,7 @@ unread_words control location = asking_site control location unread_words_at
 -- ---- CON: a word for each value
 
 abbrev pub value_words : Machine → List Expression → List Content
-value_words machine values = map (content.Value (bits_of machine)) values
+value_words machine values = map (λ value. content.Value (field_hole (bits_of machine) value)) values
 
 abbrev pub con : Control → Location → List Expression → Part
 con control location values = asking_site control location (words (value_words control.machine values))

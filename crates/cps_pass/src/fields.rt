@@ -13,7 +13,7 @@ use crate::placing::{
 };
 use crate::value_now::{ValueNow, value_now};
 use cps_expr::{Expr, Field, Sequence, Value};
-use cps_state::{Content, Contents, Flags, Lookup, Recorder};
+use cps_state::{Content, Contents, Flags, Lookup, Recorder, field_hole};
 use std::alloc::AllocError;
 
 /// The greatest width of a field.
@@ -86,8 +86,8 @@ fn field_with(value: Expr, width: Option<u8>) -> Content
     ensures is { IsContent result }
 {
     match width {
-        None => Content::Unsized(value),
-        Some(width) => Content::Value(width, value),
+        None => Content::Unsized(field_hole(0, value)),
+        Some(width) => Content::Value(field_hole(width, value)),
     }
 }
 

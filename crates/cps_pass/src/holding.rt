@@ -3,7 +3,7 @@ ghost use Rattle.std.specs.Prelude.{◌≡◌, true, Some, ◌++◌, flat_map, A
 ghost use Rattle.cps_code.specs.Operand.{operand_names};
 ghost use Rattle.cps_expr.specs.Value.{IsInRange};
 ghost use Rattle.cps_state.specs.Code.Line.{Hands};
-ghost use Rattle.cps_state.specs.Made.{IsHeld, content_names};
+ghost use Rattle.cps_state.specs.Made.{IsHeld};
 ghost use Rattle.cps_pass.specs.Code.Holding.{HoldsMore, IsUnset, IsHolding};
 ghost use Rattle.cps_pass.specs.Placing as placing;
 
@@ -34,30 +34,12 @@ pub fn hold<L: Lookup>(
         unset: None,
     };
     for content in contents {
-        hold_content(recorder, &mut holding, content)?;
+        hold_holes(recorder, &mut holding, content.holes())?;
     }
     Ok(holding.held)
 }
 
-/// The same of a content, after others.
-fn hold_content<L: Lookup>(
-    recorder: &mut Recorder<'_, L>,
-    holding: &mut Holding,
-    content: &Content,
-) -> Result<(), AllocError>
-    requires { IsHolding L.answer recorder.old holding.old }
-    ensures held { OnOk result (HoldsMore (content_names content.now) holding.old holding.new L.answer recorder.old recorder.new) }
-    ensures holding { OnOk result (IsHolding L.answer recorder.new holding.new) }
-{
-    match content {
-        Content::Instruction(form) => hold_holes(recorder, holding, form.holes()),
-        Content::Value(_, expression) => hold_names(recorder, holding, expression.names()),
-        Content::Number(..) => Ok(()),
-        Content::Unsized(expression) => hold_names(recorder, holding, expression.names()),
-    }
-}
-
-/// The same of what an instruction's fields read.
+/// The same of the symbols that go into holes, after others.
 fn hold_holes<L: Lookup>(
     recorder: &mut Recorder<'_, L>,
     holding: &mut Holding,

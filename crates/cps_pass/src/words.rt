@@ -12,7 +12,7 @@ use crate::places::here_at;
 use crate::placing::{Site, ask_site, place, place_nothing, place_unread, word_start};
 use crate::value_now::value_now;
 use cps_expr::{DisText, Expr, Machine, Sequence, pack_characters};
-use cps_state::{Content, Contents, Lookup, Recorder, word_bits};
+use cps_state::{Content, Contents, Lookup, Recorder, field_hole, word_bits};
 use cps_text::limits::MOST_COUNTED_WORDS;
 use std::alloc::{AllocError, Global};
 
@@ -75,7 +75,8 @@ fn value_words(
     let values = values.into_vec();
     let mut contents = Vec::with_capacity(alloc, values.len())?;
     for value in values {
-        contents.push(Content::Value(word_bits(machine), value))?;
+        let hole = field_hole(word_bits(machine), value);
+        contents.push(Content::Value(hole))?;
     }
     Ok(contents)
 }
