@@ -13,7 +13,7 @@ use crate::value_fault::ValueFault;
 use cps_code::{Hole, HoleKind, Operand, fits_width};
 use cps_expr::{Expr, Machine, Operation, Value, is_same_name};
 use cps_final::PlacedStatement;
-use cps_state::{Content, InstructionForm, Shown, limit_of};
+use cps_state::{Content, Shown, limit_of};
 use cps_text::Name;
 use std::alloc::{AllocError, Global};
 
@@ -27,8 +27,8 @@ const FARTHEST: u64 = 31;
 #[derive(Clone, Copy)]
 struct FieldValue<'a> {
     expression: &'a Expr,
-    /// None: the field has no bits.
-    width: Option<u8>,
+    /// 0: the field has no bits.
+    width: u8,
     kind: HoleKind,
     columns: Columns,
     /// None: the operand isn't there.
@@ -45,25 +45,27 @@ pub fn find_later(
     let operands = list_operands(alloc, &statement.card)?;
     let placed = PlacedStatement::of(statement.item, statement.finals);
     for (at, content) in statement.item.made.contents().iter().enumerate() {
-        let part = operands.get(at).copied();
-        match content {
-            Content::Instruction(form) => {
-                find_in_instruction(findings, statement, &placed, form, &operands)?;
-            }
-            Content::Value(width, expression) => {
-                let part = value_part(statement, part);
-                let field = field_of(statement, expression, Some(*width), part);
-                find_in_field(findings, statement, &placed, field)?;
-            }
-            Content::Number(..) => {}
-            Content::Unsized(expression) => {
-                let part = value_part(statement, part);
-                let field = field_of(statement, expression, None, part);
-                find_in_field(findings, statement, &placed, field)?;
-            }
+        for (hole_at, hole) in content.holes().iter().enumerate() {
+            let part = match content {
+                Content::Instruction(_) => instruction_part(statement, &operands, hole_at),
+                _ => value_part(statement, operands.get(at).copied()),
+            };
+            find_in_hole(findings, statement, &placed, hole, part)?;
         }
     }
     Ok(())
+}
+
+/// The operand of an instruction's hole: the K of a central processor's instruction stands last, the holes of a peripheral one in the order of their operands.
+fn instruction_part<'a>(
+    statement: &FlaggedStatement<'_>,
+    operands: &[PlacedText<'a>],
+    at: usize,
+) -> Option<PlacedText<'a>> {
+    match statement.item.made.machine() {
+        Machine::Cp => operands.last().copied(),
+        Machine::Pp => operands.get(at).copied(),
+    }
 }
 
 /// The value in an operand: of VFD what stands behind the first `/`.
@@ -81,44 +83,11 @@ fn value_part<'a>(
     }
 }
 
-fn field_of<'a>(
-    statement: &FlaggedStatement<'_>,
-    expression: &'a Expr,
-    width: Option<u8>,
-    part: Option<PlacedText<'a>>,
-) -> FieldValue<'a> {
-    FieldValue {
-        expression,
-        width,
-        kind: HoleKind::Value,
-        columns: columns_of(statement, part),
-        part,
-    }
-}
-
 fn columns_of(statement: &FlaggedStatement<'_>, part: Option<PlacedText<'_>>) -> Columns {
     match part {
         Some(part) => part.columns(),
         None => statement.card.statement(),
     }
-}
-
-fn find_in_instruction(
-    findings: &mut Findings,
-    statement: &FlaggedStatement<'_>,
-    placed: &PlacedStatement<'_>,
-    form: &InstructionForm,
-    operands: &[PlacedText<'_>],
-) -> Result<(), AllocError> {
-    for (at, hole) in form.holes().iter().enumerate() {
-        // The K of a central processor's instruction stands last, the holes of a peripheral one in the order of their operands.
-        let part = match statement.item.made.machine() {
-            Machine::Cp => operands.last().copied(),
-            Machine::Pp => operands.get(at).copied(),
-        };
-        find_in_hole(findings, statement, placed, hole, part)?;
-    }
-    Ok(())
 }
 
 fn find_in_hole(
@@ -128,16 +97,19 @@ fn find_in_hole(
     hole: &Hole,
     part: Option<PlacedText<'_>>,
 ) -> Result<(), AllocError> {
+    let columns = columns_of(statement, part);
     match &hole.operand {
         Operand::Expression(expression) => {
-            let mut field = field_of(statement, expression, Some(hole.width), part);
-            field.kind = hole.kind;
+            let field = FieldValue {
+                expression,
+                width: hole.width,
+                kind: hole.kind,
+                columns,
+                part,
+            };
             find_in_field(findings, statement, placed, field)
         }
-        Operand::Literal(word) => {
-            let columns = columns_of(statement, part);
-            find_in_literal(findings, placed, *word, hole.width, columns)
-        }
+        Operand::Literal(word) => find_in_literal(findings, placed, *word, hole.width, columns),
     }
 }
 
@@ -180,16 +152,13 @@ fn find_in_field(
             0
         }
     };
-    let Some(width) = field.width else {
-        return Ok(());
-    };
     match field.kind {
-        HoleKind::Value => find_cut(findings, number, width, field.columns),
+        HoleKind::Value => find_cut(findings, number, field.width, field.columns),
         HoleKind::Count if number < 0 => findings.add(
             Cause::Value(ValueFault::NegativeCount(number)),
             field.columns,
         ),
-        HoleKind::Count => find_cut(findings, number, width, field.columns),
+        HoleKind::Count => find_cut(findings, number, field.width, field.columns),
         HoleKind::Target => {
             let here = i64::try_from(placed.here()).unwrap_or(0);
             find_far(findings, number.saturating_sub(here), field.columns)
@@ -197,7 +166,7 @@ fn find_in_field(
     }
 }
 
-/// A value that its bits don't hold.
+/// A value that its bits don't hold, where it has bits.
 fn find_cut(
     findings: &mut Findings,
     value: i64,
