@@ -24,8 +24,7 @@ use Rattle.cps_final.specs.Layout.{puts_of}
 use Rattle.cps_final.specs.LineNames.{later_names}
 use Rattle.cps_final.specs.Outcome.{labels_read}
 use Rattle.cps_final.specs.NamedFinals.{statements_of, names_in}
-use Rattle.cps_final.proofs.NamingLemmas.{flat-all}
-use Rattle.cps_final.proofs.NamesLemmas.{flat-flat}
+use Rattle.cps_final.proofs.NamingLemmas.{flat-all, flat-flat}
 use Rattle.cps_chunk.specs.declared.key_filter.KeyFilter.{KeyFilter}
 use Rattle.cps_chunk.specs.Code.Sought.{is_asked}
 use Rattle.cps_chunk.specs.KeyFilter.{mark_of, has, AreMarked, asks_at, names_at, keys_put, keys_asked, keys_named}

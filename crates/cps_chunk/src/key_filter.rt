@@ -129,19 +129,7 @@ impl KeyFilter {
         ensures kept { HasAll self.old self.new }
     {
         for content in contents {
-            self.mark_content(hashing, content);
-        }
-    }
-
-    fn mark_content(&mut self, hashing: Hashing, content: &Content)
-        ensures marked { AreMarked hashing self.new (map key.Label (content_names content.now)) }
-        ensures kept { HasAll self.old self.new }
-    {
-        match content {
-            Content::Instruction(form) => self.mark_holes(hashing, form.holes()),
-            Content::Value(_, expression) => self.mark_labels(hashing, expression.names()),
-            Content::Number(..) => {}
-            Content::Unsized(expression) => self.mark_labels(hashing, expression.names()),
+            self.mark_holes(hashing, content.holes());
         }
     }
 
