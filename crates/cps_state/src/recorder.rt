@@ -113,6 +113,16 @@ impl<'a, L: Lookup> Recorder<'a, L> {
         }
     }
 
+    /// What stands at a key for the statement at hand, None where nothing does. The line doesn't ask for it.
+    pub fn peek(&self, key: &Key) -> Option<&Answer>
+        ensures { option_copied result ≡ line_answer L.answer self.now key.now }
+    {
+        match self.log.find(*key) {
+            Some(known) => self.answer(known),
+            None => self.state.ask(key),
+        }
+    }
+
     /// Puts an answer.
     pub fn put(&mut self, key: Key, answer: Answer) -> Result<(), AllocError>
         ensures { OnOk result (self.new ≡ line_put self.old (record { key = key; answer = answer })) }
