@@ -14,27 +14,33 @@ use crate::names::name_all;
 use crate::opened::{Body, Opened, Repeated};
 use crate::scope::{Own, Scope};
 use crate::statement::step_statement;
+use crate::watcher::{Unwatched, Watcher};
 use cps_state::{Flags, Lookup, Mode, Recorder, Scratch, Shared, Trace};
 use cps_text::Substitutes;
 use std::alloc::{AllocError, Global};
 
 /// Statements, each followed by those that it opens. False where one is too much.
 #[cycle(expansion)]
-fn go_through<L: Lookup>(
+fn go_through<L: Lookup, W: Watcher<L>>(
     recorder: &mut Recorder<'_, L>,
     scope: &mut Scope,
     depth: u8,
     texts: &[Shared<u8>],
+    watcher: &mut W,
 ) -> Result<bool, AllocError>
     requires { depth ≤ too_deep }
     ensures { IfOk result (λ complete. Walks (walk_at depth scope.old texts.now) complete scope.new L.answer recorder.old recorder.new) }
 {
     for text in texts {
         if !recorder.begin(depth, text.share()?)? {
+            watcher.see_dropped(depth)?;
             return Ok(false);
         }
-        if let Some(opened) = step_statement(recorder, scope, text.as_slice())? {
-            if !expand(recorder, depth + 1, opened)? {
+        let bytes = text.as_slice();
+        watcher.see_statement(recorder, scope, bytes)?;
+        if let Some(opened) = step_statement(recorder, scope, bytes)? {
+            watcher.see_opened(bytes, &opened)?;
+            if !expand(recorder, depth + 1, opened, watcher)? {
                 return Ok(false);
             }
         }
@@ -44,26 +50,28 @@ fn go_through<L: Lookup>(
 
 /// The statements that a statement opens, at their depth. False where one is too much.
 #[cycle(expansion)]
-fn expand<L: Lookup>(
+fn expand<L: Lookup, W: Watcher<L>>(
     recorder: &mut Recorder<'_, L>,
     depth: u8,
     opened: Opened<'_>,
+    watcher: &mut W,
 ) -> Result<bool, AllocError>
     requires { depth ≤ too_deep }
     ensures { IfOk result (λ complete. Goes (opened_at depth (opening_of (Some opened.entry))) complete L.answer recorder.old recorder.new) }
 {
     match opened {
-        Opened::Lines(lines) => repeat(recorder, depth, &lines),
-        Opened::Naming(called) => expand_body(recorder, depth, &called),
+        Opened::Lines(lines) => repeat(recorder, depth, &lines, watcher),
+        Opened::Naming(called) => expand_body(recorder, depth, &called, watcher),
     }
 }
 
 /// Lines so many times.
 #[cycle(expansion)]
-fn repeat<L: Lookup>(
+fn repeat<L: Lookup, W: Watcher<L>>(
     recorder: &mut Recorder<'_, L>,
     depth: u8,
     opened: &Repeated,
+    watcher: &mut W,
 ) -> Result<bool, AllocError>
     requires { depth ≤ too_deep }
     ensures { IfOk result (λ complete. Goes (opened_at depth (plain (lines_of opened.now))) complete L.answer recorder.old recorder.new) }
@@ -71,32 +79,36 @@ fn repeat<L: Lookup>(
     let alloc = recorder.alloc();
     let mut scope = Scope::Expansion(Own::at_start(alloc));
     for _turn in 0..opened.times {
-        if !go_through(recorder, &mut scope, depth, &opened.lines)? {
+        if !go_through(recorder, &mut scope, depth, &opened.lines, watcher)? {
             return Ok(false);
         }
     }
+    watcher.see_end(&scope)?;
     end_expansion(recorder, &scope);
     Ok(true)
 }
 
 /// The body of a call whose macro has LOCAL lines: these, and then the lines behind them.
 #[cycle(expansion)]
-fn expand_body<L: Lookup>(
+fn expand_body<L: Lookup, W: Watcher<L>>(
     recorder: &mut Recorder<'_, L>,
     depth: u8,
     called: &Body<'_>,
+    watcher: &mut W,
 ) -> Result<bool, AllocError>
     requires { depth ≤ too_deep }
     ensures { IfOk result (λ complete. Goes (opened_at depth (body_opening called.now)) complete L.answer recorder.old recorder.new) }
 {
+    watcher.see_locals(called)?;
     let alloc = recorder.alloc();
     let mut known = Substitutes::of(alloc, &called.pairs)?;
     if !name_all(recorder, depth, called.locals.as_slice(), &mut known)? {
+        watcher.see_dropped(depth)?;
         return Ok(false);
     }
     let lines = insert_all(alloc, called.lines.as_slice(), &known)?;
     let opened = Repeated { lines, times: 1 };
-    repeat(recorder, depth, &opened)
+    repeat(recorder, depth, &opened, watcher)
 }
 
 /// A body of DUP that is open ends with the expansion.
@@ -129,17 +141,22 @@ fn is_dup_body(mode: &Mode) -> bool
 }
 
 /// The statement of a source line, and those that it opens. False where one is too much.
-fn go_through_line<L: Lookup>(
+fn go_through_line<L: Lookup, W: Watcher<L>>(
     recorder: &mut Recorder<'_, L>,
     line: &[u8],
+    watcher: &mut W,
 ) -> Result<bool, AllocError>
     ensures { IfOk result (λ complete. runs (expansion.line_part line.now stop) L.answer recorder.old ≡ (recorder.new, complete)) }
 {
     let mut scope = Scope::Source;
+    watcher.see_statement(recorder, &scope, line)?;
     let opened = step_statement(recorder, &mut scope, line)?;
     recorder.settle();
     let complete = match opened {
-        Some(opened) => expand(recorder, 1, opened)?,
+        Some(opened) => {
+            watcher.see_opened(line, &opened)?;
+            expand(recorder, 1, opened, watcher)?
+        }
         None => true,
     };
     Ok(complete)
@@ -155,7 +172,7 @@ pub fn trace_line<L: Lookup>(
     ensures { IfOk result (λ trace. trace ≡ expansion.trace_of line.now (L.answer state.now)) }
 {
     let mut recorder = Recorder::new(alloc, scratch, state);
-    let complete = go_through_line(&mut recorder, line)?;
+    let complete = go_through_line(&mut recorder, line, &mut Unwatched)?;
     recorder.into_trace(complete, scratch)
 }
 
@@ -168,7 +185,20 @@ pub fn write_line<L: Lookup>(
 ) -> Result<(), AllocError>
     ensures { OnOk result (StandsOn scratch.new (statements_on scratch.old) (expansion.trace_of line.now (L.answer state.now))) }
 {
+    watch_line(alloc, scratch, line, state, &mut Unwatched)
+}
+
+/// The same, and tells a watcher what the line does. It is counted as no step.
+pub fn watch_line<L: Lookup, W: Watcher<L>>(
+    alloc: Global,
+    scratch: &mut Scratch,
+    line: &[u8],
+    state: &L,
+    watcher: &mut W,
+) -> Result<(), AllocError>
+    ensures { OnOk result (StandsOn scratch.new (statements_on scratch.old) (expansion.trace_of line.now (L.answer state.now))) }
+{
     let mut recorder = Recorder::new(alloc, scratch, state);
-    let complete = go_through_line(&mut recorder, line)?;
+    let complete = go_through_line(&mut recorder, line, watcher)?;
     recorder.write(complete, scratch)
 }

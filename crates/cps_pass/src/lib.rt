@@ -35,6 +35,7 @@
 //! - `treatment.rt`: what becomes of a line that is not assembled
 //! - `uses.rt`: USE
 //! - `value_now.rt`: values in pass one
+//! - `watcher.rt`: what is told what pass one of a line does
 //! - `words.rt`: CON, DATA and DIS
 #![tactic(auto)]
 
@@ -73,9 +74,11 @@ mod treating;
 mod treatment;
 mod uses;
 mod value_now;
+mod watcher;
 mod words;
 
 pub use asking::ask_value;
+pub use expansion::watch_line;
 pub use macros::insert_all;
 pub use names::name_all;
 pub use opened::{Body, Opened, Repeated};
@@ -85,3 +88,4 @@ pub use scope::{Own, Scope};
 pub use statement::step_statement;
 pub use step::{step_one, step_over, step_unasked};
 pub use value_now::{ValueNow, value_here};
+pub use watcher::Watcher;

@@ -11,7 +11,7 @@ use Rattle.cps_pass.specs.Code.Opened.{opening_of}
 use Rattle.cps_pass.specs.Code.Taking.{HandsOn, Walks}
 use Rattle.cps_pass.proofs.WalkLemmas.{walked, cut, begins-as, obeys-as, walks-as, opened-some, opened-none, one-turn, body-as, no-turn, names-as, called-if, called-cut}
 use Rattle.cps_pass.proofs.expansion.+expansion.Goals as goal
-use Rattle.cps_pass.proofs.expansion.+expansion.Goals.{go_through-in-Some+in_ok-expand+else-not-branch-2, go_through-in_default}
+use Rattle.cps_pass.proofs.expansion.+expansion.Goals.{go_through-in-Some+in_ok-see_opened+in_ok-expand+else-not-branch-2, go_through-in_default}
 
 pub go_through-loop-text-preserved : goal.go_through-loop-text-preserved
 go_through-loop-text-preserved g t c = λ next rest.
@@ -21,9 +21,9 @@ go_through-loop-text-preserved g t c = λ next rest.
     let begins : Goes (begin depth text) true f c.loop-text.recorder c.begin.new.self =
     begins-as depth c.in_ok-share.field-0 text c.in_ok-begin.field-0 true f c.loop-text.recorder c.begin.new.self c.in_ok-share.ensures c.if-not-branch.false c.in_ok-begin.ensures.begun in
     let obeys : HandsOn (statement c.loop-text.scope text) c.step_statement.new.scope (opening_of c.in_ok-opened.field-0) f c.begin.new.self c.step_statement.new.recorder =
-    obeys-as c.loop-text.scope c.step_statement.new.scope c.as_slice.result.now text (opening_of c.in_ok-opened.field-0) f c.begin.new.self c.step_statement.new.recorder c.as_slice.ensures c.in_ok-opened.ensures in
-    elim c.match-branch-4.branch [
-      | go_through-in-Some+in_ok-expand+else-not-branch-2 w ↦ rw w.recorder-is (sym (walked (body (too_deep - depth)) depth c.args.texts.now c.loop-text.text-index text c.loop-text.scope c.step_statement.new.scope (opening_of c.in_ok-opened.field-0) true f c.loop-text.recorder c.begin.new.self c.step_statement.new.recorder w.expand.new.recorder
+    obeys-as c.loop-text.scope c.step_statement.new.scope c.as_slice-bytes.result.now text (opening_of c.in_ok-opened.field-0) f c.begin.new.self c.step_statement.new.recorder c.as_slice-bytes.ensures c.in_ok-opened.ensures in
+    elim c.match-branch-6.branch [
+      | go_through-in-Some+in_ok-see_opened+in_ok-expand+else-not-branch-2 w ↦ rw w.recorder-is (sym (walked (body (too_deep - depth)) depth c.args.texts.now c.loop-text.text-index text c.loop-text.scope c.step_statement.new.scope (opening_of c.in_ok-opened.field-0) true f c.loop-text.recorder c.begin.new.self c.step_statement.new.recorder w.expand.new.recorder
           c.loop-text-test.true c.text-item.is begins obeys
           (opened-some (too_deep + 1 - (depth + 1)) (too_deep - depth) (depth + 1) c.in_ok-opened.field-0 w.in-Some.opened w.in_ok-expand.field-0 true f c.step_statement.new.recorder w.expand.new.recorder w.in-Some.is (omega arith) (search rules) w.in_ok-expand.ensures) next rest)
           ∙ c.loop-text.invariant next rest)
@@ -51,7 +51,7 @@ go_through-returns-then-not-branch-2 g t c = λ next rest.
     let begins : Goes (begin depth text) true f c.loop-text.recorder c.begin.new.self =
     begins-as depth c.in_ok-share.field-0 text c.in_ok-begin.field-0 true f c.loop-text.recorder c.begin.new.self c.in_ok-share.ensures c.if-not-branch.false c.in_ok-begin.ensures.begun in
     let obeys : HandsOn (statement c.loop-text.scope text) c.step_statement.new.scope (opening_of c.in_ok-opened.field-0) f c.begin.new.self c.step_statement.new.recorder =
-    obeys-as c.loop-text.scope c.step_statement.new.scope c.as_slice.result.now text (opening_of c.in_ok-opened.field-0) f c.begin.new.self c.step_statement.new.recorder c.as_slice.ensures c.in_ok-opened.ensures in
+    obeys-as c.loop-text.scope c.step_statement.new.scope c.as_slice-bytes.result.now text (opening_of c.in_ok-opened.field-0) f c.begin.new.self c.step_statement.new.recorder c.as_slice-bytes.ensures c.in_ok-opened.ensures in
     sym (c.loop-text.invariant next rest)
     ∙ walked (body (too_deep - depth)) depth c.args.texts.now c.loop-text.text-index text c.loop-text.scope c.step_statement.new.scope (opening_of c.in_ok-opened.field-0) false f c.loop-text.recorder c.begin.new.self c.step_statement.new.recorder c.expand.new.recorder
     c.loop-text-test.true c.text-item.is begins obeys

@@ -5,7 +5,7 @@ use Rattle.cps_state.specs.Code.Line.{runs}
 use Rattle.cps_state.specs.Code.Scratch.{statements_on}
 use Rattle.cps_pass.specs.Expansion.{line_part}
 use Rattle.cps_pass.proofs.WalkLemmas.{before-stays, done-is}
-use Rattle.cps_pass.proofs.expansion.write_line.Goals as goal
+use Rattle.cps_pass.proofs.expansion.watch_line.Goals as goal
 
 pub returns : goal.returns
 returns g c =
