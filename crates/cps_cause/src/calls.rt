@@ -14,7 +14,7 @@ use std::alloc::AllocError;
 
 /// What is wrong with the arguments of a macro's call.
 pub fn find_call(
-    recorder: &mut Recorder<'_, Asks>,
+    recorder: &Recorder<'_, Asks>,
     findings: &mut Findings,
     statement: &FlaggedStatement<'_>,
     name: Name,
@@ -22,8 +22,7 @@ pub fn find_call(
     if !findings.wants(Letter::A) {
         return Ok(());
     }
-    let known = recorder.note(Key::Macro(name))?;
-    let Some(named) = macro_of(recorder.answer(known))? else {
+    let Some(named) = macro_of(recorder.peek(&Key::Macro(name)))? else {
         return Ok(());
     };
     let tail = statement.card.tail();

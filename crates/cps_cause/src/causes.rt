@@ -20,7 +20,7 @@ use std::alloc::AllocError;
 
 /// The causes of a statement's flags, before it is stepped.
 pub fn find_causes(
-    recorder: &mut Recorder<'_, Asks>,
+    recorder: &Recorder<'_, Asks>,
     findings: &mut Findings,
     statement: &FlaggedStatement<'_>,
 ) -> Result<(), AllocError> {
@@ -31,7 +31,7 @@ pub fn find_causes(
 }
 
 fn find_before_end(
-    recorder: &mut Recorder<'_, Asks>,
+    recorder: &Recorder<'_, Asks>,
     findings: &mut Findings,
     statement: &FlaggedStatement<'_>,
 ) -> Result<(), AllocError> {
@@ -57,7 +57,7 @@ fn is_end(statement: &FlaggedStatement<'_>) -> bool {
 
 /// The causes of the flags of a statement that is assembled. What it says is dropped by a call, whose proof stands once.
 fn find_assembled(
-    recorder: &mut Recorder<'_, Asks>,
+    recorder: &Recorder<'_, Asks>,
     findings: &mut Findings,
     statement: &FlaggedStatement<'_>,
     fields: StatementFields<'_>,
@@ -77,7 +77,7 @@ fn find_assembled(
 
 /// The causes of the flags of a statement that says this.
 fn find_stated(
-    recorder: &mut Recorder<'_, Asks>,
+    recorder: &Recorder<'_, Asks>,
     findings: &mut Findings,
     statement: &FlaggedStatement<'_>,
     reading: &Reading,
@@ -91,7 +91,7 @@ fn find_stated(
 }
 
 fn find_in_operands(
-    recorder: &mut Recorder<'_, Asks>,
+    recorder: &Recorder<'_, Asks>,
     findings: &mut Findings,
     statement: &FlaggedStatement<'_>,
     reading: &Reading,

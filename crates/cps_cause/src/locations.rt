@@ -12,8 +12,8 @@ use crate::operation_fault::OperationFault;
 use crate::statement::FlaggedStatement;
 use cps_code::is_builtin;
 use cps_expr::{Machine, Operation};
-use cps_pass::{Location, Reading, ask_value};
-use cps_state::{Key, Lookup, Recorder};
+use cps_pass::{Location, Reading};
+use cps_state::{Key, Lookup, Recorder, value_of};
 use cps_text::Name;
 use std::alloc::{AllocError, Global};
 
@@ -59,7 +59,7 @@ fn fault_of(operation: Option<Operation>, statement: &FlaggedStatement<'_>) -> L
 
 /// The symbol of a location field that has a value already.
 pub fn find_definition(
-    recorder: &mut Recorder<'_, Asks>,
+    recorder: &Recorder<'_, Asks>,
     findings: &mut Findings,
     statement: &FlaggedStatement<'_>,
 ) -> Result<(), AllocError> {
@@ -69,7 +69,7 @@ pub fn find_definition(
     if !findings.wants(Letter::D) {
         return Ok(());
     }
-    let label = ask_value(recorder, Key::Label(name))?;
+    let label = value_of(recorder.peek(&Key::Label(name)));
     let fault = match Operation::named(statement.card.operation_text()) {
         Some(Operation::Set) => DefinitionFault::NotFromSet(name),
         _ if label.is_some() => DefinitionFault::HasValue(name),

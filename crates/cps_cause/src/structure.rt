@@ -16,7 +16,7 @@ use std::alloc::AllocError;
 
 /// What is wrong with where a statement stands that is assembled.
 pub fn find_structure(
-    recorder: &mut Recorder<'_, Asks>,
+    recorder: &Recorder<'_, Asks>,
     findings: &mut Findings,
     statement: &FlaggedStatement<'_>,
     reading: &Reading,
@@ -91,14 +91,13 @@ fn late_machine(phase: Phase) -> Option<Cause> {
 
 /// Why ELSE may not stand where lines are assembled. What ranges an expansion has of its own isn't told.
 fn else_fault(
-    recorder: &mut Recorder<'_, Asks>,
+    recorder: &Recorder<'_, Asks>,
     statement: &FlaggedStatement<'_>,
 ) -> Result<Option<Cause>, AllocError> {
     if !statement.is_source {
         return Ok(Some(Cause::Structure(StructureFault::NoRangeForElse)));
     }
-    let known = recorder.note(Key::Ifs)?;
-    let ranges = ranges_of(recorder.answer(known))?;
+    let ranges = ranges_of(recorder.peek(&Key::Ifs))?;
     let fault = match ranges.as_slice() {
         [OpenRange::BehindElse, ..] => StructureFault::SecondElse,
         _ => StructureFault::NoRange,

@@ -4,8 +4,7 @@ ghost use Rattle.cps_cause.specs.Code.SymbolsNow.{value_among};
 
 use crate::asks::Asks;
 use cps_expr::{Expr, Names, Value, Valued, is_same_name};
-use cps_pass::ask_value;
-use cps_state::{Key, Recorder};
+use cps_state::{Key, Recorder, value_of};
 use cps_text::Name;
 use std::alloc::AllocError;
 
@@ -44,14 +43,11 @@ fn value_among(symbols: &[SymbolNow], name: Name) -> Option<Value>
 }
 
 impl SymbolsNow {
-    /// Those of an expression. All of them are asked by the statement itself.
-    pub fn of(
-        recorder: &mut Recorder<'_, Asks>,
-        expression: &Expr,
-    ) -> Result<SymbolsNow, AllocError> {
+    /// Those of an expression, for the statement at hand.
+    pub fn of(recorder: &Recorder<'_, Asks>, expression: &Expr) -> Result<SymbolsNow, AllocError> {
         let mut symbols = Vec::new(recorder.alloc());
         for name in expression.names() {
-            let value = value_now(recorder, *name)?;
+            let value = value_now(recorder, *name);
             symbols.push(SymbolNow { name: *name, value })?;
         }
         Ok(SymbolsNow { symbols })
@@ -69,8 +65,8 @@ impl SymbolsNow {
 }
 
 /// The value of a symbol, by SET before its label.
-fn value_now(recorder: &mut Recorder<'_, Asks>, name: Name) -> Result<Option<Value>, AllocError> {
-    let label = ask_value(recorder, Key::Label(name))?;
-    let setting = ask_value(recorder, Key::Setting(name))?;
-    Ok(setting.or(label))
+fn value_now(recorder: &Recorder<'_, Asks>, name: Name) -> Option<Value> {
+    let label = value_of(recorder.peek(&Key::Label(name)));
+    let setting = value_of(recorder.peek(&Key::Setting(name)));
+    setting.or(label)
 }

@@ -14,8 +14,8 @@ use crate::value_fault::{Bounds, ValueFault};
 use crate::width_fault::WidthFault;
 use cps_expr::{Expr, Pseudo, Value, ValueTest};
 use cps_final::Finals;
-use cps_pass::{Location, ValueNow, stand, value_here};
-use cps_state::{Recorder, is_same_block, limit_of};
+use cps_pass::Location;
+use cps_state::{Key, Recorder, is_same_block, limit_of, place_of};
 use cps_text::Name;
 use cps_text::limits::MOST_TIMES;
 use std::alloc::{AllocError, Global};
@@ -25,15 +25,15 @@ const MOST_BITS: i64 = 60;
 
 /// What is wrong with values that a statement takes as it is read.
 pub fn find_now(
-    recorder: &mut Recorder<'_, Asks>,
+    recorder: &Recorder<'_, Asks>,
     findings: &mut Findings,
     statement: &FlaggedStatement<'_>,
     row: &Pseudo,
 ) -> Result<(), AllocError> {
     let operands = list_operands(recorder.alloc(), &statement.card)?;
     let demands = list_demands(recorder.alloc(), row, &operands)?;
+    let here = here_for(recorder, statement, row);
     for demanded in &demands {
-        let here = here_for(recorder, statement, row, demanded)?;
         find_in_demanded(recorder, findings, statement, demanded, here)?;
     }
     if let Pseudo::Compare(test) = row {
@@ -41,32 +41,29 @@ pub fn find_now(
             left: operands.first().copied(),
             right: operands.get(1).copied(),
         };
-        find_incomparable(recorder, findings, statement, test, operands)?;
+        find_incomparable(recorder, findings, here, test, operands)?;
     }
     Ok(())
 }
 
-/// What `*` stands for in an expression of a statement. The counter is asked only where `*` stands in it.
+/// What `*` stands for in the expressions of a statement of this row: the present word, or the next one where that is left before.
 fn here_for(
-    recorder: &mut Recorder<'_, Asks>,
+    recorder: &Recorder<'_, Asks>,
     statement: &FlaggedStatement<'_>,
     row: &Pseudo,
-    demanded: &DemandedValue<'_>,
-) -> Result<Value, AllocError> {
-    if !demanded.expression.has_counter() {
-        return Ok(Value::plain(0));
-    }
-    let place = stand(recorder, statement.control)?;
+) -> Value {
+    let control = statement.control;
+    let place = place_of(recorder.peek(&Key::Counter(control.block)), control.machine);
     let leaves = match row {
         Pseudo::Org(_) | Pseudo::Bss(_) | Pseudo::Bssz(_) | Pseudo::Dis(_) => true,
         Pseudo::Vfd(_) => forces(statement.location(), place.is_pending),
         _ => false,
     };
     let words = if leaves && place.used > 0 { 1 } else { 0 };
-    Ok(Value {
-        block: statement.control.block,
+    Value {
+        block: control.block,
         offset: i64::from(place.word) + words,
-    })
+    }
 }
 
 /// Whether a field of VFD begins a word, by its location field and by whether a forcing is pending.
@@ -79,7 +76,7 @@ fn forces(location: Location, is_pending: bool) -> bool {
 }
 
 fn find_in_demanded(
-    recorder: &mut Recorder<'_, Asks>,
+    recorder: &Recorder<'_, Asks>,
     findings: &mut Findings,
     statement: &FlaggedStatement<'_>,
     demanded: &DemandedValue<'_>,
@@ -192,9 +189,9 @@ struct ComparedOperands<'a> {
 
 /// Two values that aren't in one block.
 fn find_incomparable(
-    recorder: &mut Recorder<'_, Asks>,
+    recorder: &Recorder<'_, Asks>,
     findings: &mut Findings,
-    statement: &FlaggedStatement<'_>,
+    here: Value,
     test: &ValueTest,
     sides: ComparedOperands<'_>,
 ) -> Result<(), AllocError> {
@@ -202,8 +199,8 @@ fn find_incomparable(
         return Ok(());
     };
     let (Some(one), Some(other)) = (
-        known_here(recorder, statement, &test.left)?,
-        known_here(recorder, statement, &test.right)?,
+        known_value(recorder, &test.left, here)?,
+        known_value(recorder, &test.right, here)?,
     ) else {
         return Ok(());
     };
@@ -217,13 +214,15 @@ fn find_incomparable(
 }
 
 /// The value of an expression, None where it has none or a symbol has none.
-fn known_here(
-    recorder: &mut Recorder<'_, Asks>,
-    statement: &FlaggedStatement<'_>,
+fn known_value(
+    recorder: &Recorder<'_, Asks>,
     expression: &Expr,
+    here: Value,
 ) -> Result<Option<Value>, AllocError> {
-    match value_here(recorder, statement.control, expression)? {
-        ValueNow::Known(value) => Ok(Some(value)),
-        _ => Ok(None),
+    let symbols = SymbolsNow::of(recorder, expression)?;
+    let valued = symbols.value(expression, here);
+    if valued.undefined {
+        return Ok(None);
     }
+    Ok(valued.value)
 }

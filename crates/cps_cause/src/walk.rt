@@ -1,5 +1,4 @@
-//! The statements of a line once more, over what the line asked.
-ghost use Rattle.std.specs.Prelude.{◌≤◌, ◌+◌};
+//! The statements of a line, which pass one goes through again over what the line asked.
 
 use crate::asks::Asks;
 use crate::card::Card;
@@ -15,25 +14,53 @@ use crate::statement::FlaggedStatement;
 use crate::structure_fault::StructureFault;
 use crate::unreadable::{MANY, find_count, find_parameters};
 use cps_final::{Finals, Output, flags_of};
-use cps_pass::{Body, Opened, Own, Repeated, Scope, insert_all, name_all, step_statement};
-use cps_state::{Item, Key, Mode, Recorder, Scratch, Shared, Trace, control_of, mode_of};
+use cps_pass::{Body, Opened, Scope, Watcher, watch_line};
+use cps_state::{Item, Key, Mode, Recorder, Scratch, Trace, control_of, mode_of};
 use cps_text::limits::{DEEPEST, MOST_STATEMENTS};
-use cps_text::{Line, Name, Substitutes};
+use cps_text::{Line, Name};
 use std::alloc::{AllocError, Global};
 use std::slice::from_ref;
 
-/// The statements of a line as they come once more, each with what it made, and the causes that are found.
+/// The statements of a line as they come again, each with what it made, and the causes that are found.
 #[derive(Drop)]
 struct StatementWalk<'a> {
+    alloc: Global,
     card: Card<'a>,
     items: &'a [Item],
     finals: &'a Finals,
-    /// How many statements have begun.
+    /// How many statements have come.
     count: usize,
     output: Output,
     findings: Findings,
-    /// Where the statement at hand is written, or the first of those that come.
+    /// Where the statement at hand is written.
     origin: Origin,
+    /// How many lines were kept for a DUP before it, if a DUP keeps lines there.
+    kept: Option<u32>,
+    /// The bodies that it stands in, the innermost last.
+    bodies: Vec<OpenBody>,
+}
+
+/// A body whose lines come one after another, also more than once.
+#[derive(Clone, Copy)]
+struct OpenBody {
+    /// Where its first line is written.
+    first: Origin,
+    /// How many lines it has.
+    count: usize,
+    /// How many of them stand before the one that comes next.
+    before: u32,
+}
+
+impl OpenBody {
+    /// Where the line is written that comes next. Behind the last line the first comes again.
+    fn next_line(&mut self) -> Origin {
+        let origin = self.first.down(self.before);
+        self.before = self.before.saturating_add(1);
+        if self.before as usize >= self.count {
+            self.before = 0;
+        }
+        origin
+    }
 }
 
 /// The causes of all statements of a line.
@@ -45,9 +72,9 @@ pub fn find_all(
 ) -> Result<Vec<Diagnostic>, AllocError> {
     let asks = Asks::of(alloc, finals.hashing(), trace.asks())?;
     let mut scratch = Scratch::new(alloc);
-    let mut recorder = Recorder::new(alloc, &mut scratch, &asks);
     let card = Card::of(line.bytes());
     let mut walk = StatementWalk {
+        alloc,
         card,
         items: trace.items(),
         finals,
@@ -55,37 +82,94 @@ pub fn find_all(
         output: Output::new(alloc),
         findings: Findings::new(alloc, card.operation_or_all()),
         origin: Origin::Line,
+        kept: None,
+        bodies: Vec::new(alloc),
     };
-    let mut scope = Scope::Source;
-    let walked = go_through_line(&mut walk, &mut recorder, &mut scope);
-    drop(scope);
-    drop(recorder);
+    let watched = watch_line(alloc, &mut scratch, line.bytes(), &asks, &mut walk);
+    drop(scratch);
     drop(asks);
     let StatementWalk { findings, .. } = walk;
-    match walked {
+    match watched {
         Ok(()) => findings.finish(),
         Err(_) => Err(AllocError),
     }
 }
 
-/// The line's own statement, followed by those that it opens. What is held meanwhile is dropped by its caller, in one place.
-fn go_through_line(
-    walk: &mut StatementWalk<'_>,
-    recorder: &mut Recorder<'_, Asks>,
-    scope: &mut Scope,
-) -> Result<(), AllocError> {
-    let text = walk.card.text;
-    look(walk, recorder, scope, text)?;
-    let known = recorder.note(Key::Control)?;
-    let kept = kept_for_dup(&mode_of(recorder.answer(known))?);
-    if let Some(opened) = step_statement(recorder, scope, text)? {
-        walk.origin = match kept {
-            Some(count) => Origin::Dup(BodyLine { before: 0, count }),
-            None => body_of(text, &opened),
-        };
-        expand(walk, recorder, 1, opened)?;
+impl<'a> Watcher<Asks> for StatementWalk<'a> {
+    fn see_statement(
+        &mut self,
+        recorder: &Recorder<'_, Asks>,
+        scope: &Scope,
+        text: &[u8],
+    ) -> Result<(), AllocError> {
+        go_to_next(self);
+        let mode = mode_at(recorder, scope)?;
+        self.kept = kept_for_dup(&mode);
+        look(self, recorder, scope, &mode, text)
     }
-    Ok(())
+
+    fn see_opened(&mut self, text: &[u8], opened: &Opened<'_>) -> Result<(), AllocError> {
+        let count = length_of(opened);
+        let first = match self.kept {
+            Some(kept) => first_kept(self, kept),
+            None => body_of(text, count),
+        };
+        self.bodies.push(OpenBody {
+            first,
+            count,
+            before: 0,
+        })?;
+        Ok(())
+    }
+
+    fn see_locals(&mut self, called: &Body<'_>) -> Result<(), AllocError> {
+        let mut taken = Vec::new(self.alloc);
+        for pair in &called.pairs {
+            taken.push(pair.0)?;
+        }
+        for line in called.locals.as_slice() {
+            go_to_next(self);
+            find_local(self, &mut taken, line.as_slice())?;
+        }
+        Ok(())
+    }
+
+    fn see_end(&mut self, scope: &Scope) -> Result<(), AllocError> {
+        self.bodies.pop();
+        if keeps_lines(scope) {
+            self.findings
+                .add_to_operation(Cause::Structure(StructureFault::ExpansionKeeps))?;
+        }
+        Ok(())
+    }
+
+    fn see_dropped(&mut self, depth: u8) -> Result<(), AllocError> {
+        let fault = if depth > DEEPEST {
+            LimitFault::Depth
+        } else if self.count > MOST_STATEMENTS {
+            LimitFault::Statements
+        } else {
+            LimitFault::Names
+        };
+        let columns = self.card.operation_or_all();
+        self.findings.add(Cause::Limit(fault), columns)
+    }
+}
+
+/// The next statement is at hand: the line's own, or the next line of the innermost body.
+fn go_to_next(walk: &mut StatementWalk<'_>) {
+    walk.origin = match walk.bodies.last_mut() {
+        Some(body) => body.next_line(),
+        None => Origin::Line,
+    };
+}
+
+/// What is done with a statement: for a source line what the state says.
+fn mode_at(recorder: &Recorder<'_, Asks>, scope: &Scope) -> Result<Mode, AllocError> {
+    match scope {
+        Scope::Source => mode_of(recorder.peek(&Key::Control)),
+        Scope::Expansion(own) => own.mode().share(),
+    }
 }
 
 /// How many lines are kept for a DUP, if they are.
@@ -96,18 +180,21 @@ fn kept_for_dup(mode: &Mode) -> Option<u32> {
     }
 }
 
-/// The same in an expansion; a source line goes by the state.
-fn kept_within(scope: &Scope) -> Option<u32> {
-    match scope {
-        Scope::Expansion(own) => kept_for_dup(own.mode()),
-        Scope::Source => None,
+/// The first of so many lines that are kept for the DUP that the statement at hand closes.
+fn first_kept(walk: &StatementWalk<'_>, kept: u32) -> Origin {
+    if walk.bodies.is_empty() {
+        return Origin::Dup(BodyLine {
+            before: 0,
+            count: kept,
+        });
     }
+    walk.origin.up(kept)
 }
 
-/// The first line of the body that a call opens.
-fn body_of(call: &[u8], opened: &Opened<'_>) -> Origin {
+/// The first line of the body of so many lines that a call opens.
+fn body_of(call: &[u8], count: usize) -> Origin {
     let name = Name::read(Card::of(call).operation_text());
-    match (name, u32::try_from(length_of(opened))) {
+    match (name, u32::try_from(count)) {
         (Some(name), Ok(count)) => Origin::Macro(name, BodyLine { before: 0, count }),
         _ => Origin::Line,
     }
@@ -124,11 +211,12 @@ fn length_of(opened: &Opened<'_>) -> usize {
     }
 }
 
-/// Looks for causes in the next statement, before it is stepped.
+/// Looks for causes in the statement at hand, which is done in this mode.
 fn look(
     walk: &mut StatementWalk<'_>,
-    recorder: &mut Recorder<'_, Asks>,
+    recorder: &Recorder<'_, Asks>,
     scope: &Scope,
+    mode: &Mode,
     text: &[u8],
 ) -> Result<(), AllocError> {
     let at = walk.count;
@@ -150,29 +238,18 @@ fn look(
     if !flags.has_flag() {
         return Ok(());
     }
-    let known = recorder.note(Key::Control)?;
-    let control = control_of(recorder.answer(known));
-    let mode = mode_of(recorder.answer(known))?;
-    let mode = mode_in(mode, scope)?;
+    let control = control_of(recorder.peek(&Key::Control));
     walk.findings.count_in(control.radix);
     let statement = FlaggedStatement {
         card,
         control,
-        mode: &mode,
+        mode,
         is_source: is_source(scope),
         item,
         rows: walk.output.rows(),
         finals: walk.finals,
     };
     find_causes(recorder, &mut walk.findings, &statement)
-}
-
-/// What is done with a statement: for a source line what the state says.
-fn mode_in(mode: Mode, scope: &Scope) -> Result<Mode, AllocError> {
-    match scope {
-        Scope::Source => Ok(mode),
-        Scope::Expansion(own) => own.mode().share(),
-    }
 }
 
 fn is_source(scope: &Scope) -> bool {
@@ -182,186 +259,16 @@ fn is_source(scope: &Scope) -> bool {
     }
 }
 
-/// A statement of the line's expansion is too much, so the line is dropped.
-fn find_dropped(walk: &mut StatementWalk<'_>, depth: u8) -> Result<(), AllocError> {
-    let fault = if depth > DEEPEST {
-        LimitFault::Depth
-    } else if walk.count > MOST_STATEMENTS {
-        LimitFault::Statements
-    } else {
-        LimitFault::Names
-    };
-    let columns = walk.card.operation_or_all();
-    walk.findings.add(Cause::Limit(fault), columns)
-}
-
-/// Statements, each followed by those that it opens. False where one is too much.
-#[cycle(walking)]
-fn go_through(
-    walk: &mut StatementWalk<'_>,
-    recorder: &mut Recorder<'_, Asks>,
-    scope: &mut Scope,
-    depth: u8,
-    texts: &[Shared<u8>],
-) -> Result<bool, AllocError>
-    requires { depth ≤ DEEPEST + 1 }
-{
-    let first = walk.origin;
-    let mut before: u32 = 0;
-    for text in texts {
-        walk.origin = first.down(before);
-        before = before.saturating_add(1);
-        if !recorder.begin(depth, text.share()?)? {
-            find_dropped(walk, depth)?;
-            return Ok(false);
-        }
-        look(walk, recorder, scope, text.as_slice())?;
-        let kept = kept_within(scope);
-        if let Some(opened) = step_statement(recorder, scope, text.as_slice())? {
-            walk.origin = match kept {
-                Some(lines) => walk.origin.up(lines),
-                None => body_of(text.as_slice(), &opened),
-            };
-            if !expand(walk, recorder, depth + 1, opened)? {
-                return Ok(false);
-            }
-        }
-    }
-    walk.origin = first;
-    Ok(true)
-}
-
-/// The statements that a statement opens, at their depth. False where one is too much.
-#[cycle(walking)]
-fn expand(
-    walk: &mut StatementWalk<'_>,
-    recorder: &mut Recorder<'_, Asks>,
-    depth: u8,
-    opened: Opened<'_>,
-) -> Result<bool, AllocError>
-    requires { depth ≤ DEEPEST + 1 }
-{
-    match opened {
-        Opened::Lines(lines) => repeat(walk, recorder, depth, &lines),
-        Opened::Naming(called) => expand_body(walk, recorder, depth, &called),
-    }
-}
-
-/// Lines so many times.
-#[cycle(walking)]
-fn repeat(
-    walk: &mut StatementWalk<'_>,
-    recorder: &mut Recorder<'_, Asks>,
-    depth: u8,
-    opened: &Repeated,
-) -> Result<bool, AllocError>
-    requires { depth ≤ DEEPEST + 1 }
-{
-    let mut scope = Scope::Expansion(Own::at_start(recorder.alloc()));
-    let is_whole = take_turns(walk, recorder, &mut scope, depth, opened);
-    drop(scope);
-    is_whole
-}
-
-/// Lines so many times, in their expansion.
-#[cycle(walking)]
-fn take_turns(
-    walk: &mut StatementWalk<'_>,
-    recorder: &mut Recorder<'_, Asks>,
-    scope: &mut Scope,
-    depth: u8,
-    opened: &Repeated,
-) -> Result<bool, AllocError>
-    requires { depth ≤ DEEPEST + 1 }
-{
-    for _turn in 0..opened.times {
-        if !go_through(walk, recorder, scope, depth, &opened.lines)? {
-            return Ok(false);
-        }
-    }
-    if keeps_lines(scope) {
-        walk.findings
-            .add_to_operation(Cause::Structure(StructureFault::ExpansionKeeps))?;
-    }
-    Ok(true)
-}
-
-/// Whether the lines of a DUP are kept.
+/// Whether an expansion keeps lines for a DUP.
 fn keeps_lines(scope: &Scope) -> bool {
     match scope {
-        Scope::Expansion(own) => is_dup_body(own.mode()),
+        Scope::Expansion(own) => kept_for_dup(own.mode()).is_some(),
         Scope::Source => false,
     }
 }
 
-fn is_dup_body(mode: &Mode) -> bool {
-    match mode {
-        Mode::KeepDup(_) => true,
-        _ => false,
-    }
-}
-
-/// The body of a call whose macro has LOCAL lines: these, and then the lines behind them.
-#[cycle(walking)]
-fn expand_body(
-    walk: &mut StatementWalk<'_>,
-    recorder: &mut Recorder<'_, Asks>,
-    depth: u8,
-    called: &Body<'_>,
-) -> Result<bool, AllocError>
-    requires { depth ≤ DEEPEST + 1 }
-{
-    match insert_names(walk, recorder, depth, called)? {
-        Some(opened) => repeat(walk, recorder, depth, &opened),
-        None => Ok(false),
-    }
-}
-
-/// The lines of a body behind its LOCAL lines, with arguments and names; None where the names are too many.
-fn insert_names(
-    walk: &mut StatementWalk<'_>,
-    recorder: &mut Recorder<'_, Asks>,
-    depth: u8,
-    called: &Body<'_>,
-) -> Result<Option<Repeated>, AllocError> {
-    let alloc = recorder.alloc();
-    let mut known = Substitutes::of(alloc, &called.pairs)?;
-    let is_whole = name_all(recorder, depth, called.locals.as_slice(), &mut known)?;
-    let first = walk.origin;
-    let locals = find_locals(walk, recorder, called)?;
-    walk.origin = first.down(locals);
-    if !is_whole {
-        find_dropped(walk, depth)?;
-        return Ok(None);
-    }
-    let lines = insert_all(alloc, called.lines.as_slice(), &known)?;
-    Ok(Some(Repeated { lines, times: 1 }))
-}
-
-/// The LOCAL lines of a call, and how many they are.
-fn find_locals(
-    walk: &mut StatementWalk<'_>,
-    recorder: &mut Recorder<'_, Asks>,
-    called: &Body<'_>,
-) -> Result<u32, AllocError> {
-    let alloc = recorder.alloc();
-    let mut taken = Vec::new(alloc);
-    for pair in &called.pairs {
-        taken.push(pair.0)?;
-    }
-    let first = walk.origin;
-    let mut count: u32 = 0;
-    for line in called.locals.as_slice() {
-        walk.origin = first.down(count);
-        find_local(alloc, walk, &mut taken, line.as_slice())?;
-        count = count.saturating_add(1);
-    }
-    Ok(count)
-}
-
 /// A LOCAL line, with the names that are taken before it.
 fn find_local(
-    alloc: Global,
     walk: &mut StatementWalk<'_>,
     taken: &mut Vec<Name>,
     text: &[u8],
@@ -381,7 +288,7 @@ fn find_local(
         operation: card.operation_or_all(),
         is_line: false,
     })?;
-    let operands = list_operands(alloc, &card)?;
+    let operands = list_operands(walk.alloc, &card)?;
     if !flags.operand {
         take_names(taken, &operands)?;
     }

@@ -77,15 +77,12 @@ mod value_now;
 mod watcher;
 mod words;
 
-pub use asking::ask_value;
 pub use expansion::watch_line;
 pub use macros::insert_all;
 pub use names::name_all;
 pub use opened::{Body, Opened, Repeated};
-pub use places::stand;
 pub use reading::{Location, Reading, read_location, read_operation};
 pub use scope::{Own, Scope};
 pub use statement::step_statement;
 pub use step::{step_one, step_over, step_unasked};
-pub use value_now::{ValueNow, value_here};
 pub use watcher::Watcher;
