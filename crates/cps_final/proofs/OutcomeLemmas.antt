@@ -22,6 +22,7 @@ use Rattle.cps_final.specs.Values.{Resolved, known_in, PlacedStatement, placed_s
 use Rattle.cps_final.specs.Places.{with_places}
 use Rattle.cps_final.specs.Rows.{row_at, later_rows, content_rows, with_contents, blank_row, rows_with, rows_made, row_of, rows_of}
 use Rattle.cps_final.specs.LineNames.{defined_by, names_defined, names_later, names_read, read_by, symbol_put}
+use Rattle.cps_final.specs.Code.NamesKept.{few_or_many}
 use Rattle.cps_final.specs.Outcome.{Output, output_of, outcome_of, joined_with}
 use Rattle.cps_final.proofs.BlockLemmas.{same_name-laws}
 use Rattle.cps_final.proofs.GatherLemmas.{distinct-append}
@@ -207,3 +208,11 @@ item-flags-next finals items shown i item flags new end same lt is joins so_far 
     let is-now : item ≡ get_or shown i item = is ∙ ap (λ (l : List Item). get_or l i item) same in
     let joins-now : new ≡ joined_with flags (rows_of finals item) = joins ∙ sym (rows-flags item flags (rows_made finals item)) in
     ap (λ (fs : Flags). joined_with fs (flat_map f (drop (i + 1) shown))) joins-now ∙ sym (rows-joined f shown i item flags within is-now) ∙ so_far
+
+-- a few names, or many: which of them there are
+pub all-few : (few many : List Name) → many ≡ [] → few_or_many few many ≡ few
+all-few few many none = ap (few_or_many few) none
+
+pub all-many : (few many : List Name) → few ≡ [] → few_or_many few many ≡ many
+all-many few [] none = none
+all-many few (name ∷ names) none = refl

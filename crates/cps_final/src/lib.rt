@@ -16,6 +16,7 @@
 //! - `literals.rt`: the literal words of statements
 //! - `name_lists.rt`: the symbols of a line that is kept
 //! - `named_finals.rt`: the names of a run of lines for pass two, each once
+//! - `names_once.rt`: names of one line after another, each once
 //! - `naming.rt`: the trait of a test of names, and the walk over what statements name
 //! - `octal_digits.rt`: digits that a row may show
 //! - `outcome.rt`: the step: the outcome of a line
@@ -49,6 +50,7 @@ mod line_symbols;
 mod literals;
 mod name_lists;
 mod named_finals;
+mod names_once;
 mod naming;
 mod octal_digits;
 mod outcome;

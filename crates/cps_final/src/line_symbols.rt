@@ -2,18 +2,17 @@
 ghost use Rattle.std.specs.Prelude.{◌≡◌, [], OnOk};
 ghost use Rattle.cps_final.specs.LineNames.{defined_by, read_by};
 
-use crate::line_names::{insert_defined, insert_read};
+use crate::names_once::NamesOnce;
 use cps_state::{Hashing, Item, Put};
 use cps_text::Name;
-use indexmap::IndexSet;
 use std::alloc::{AllocError, Global};
 use std::marker::Model;
 
 /// The symbols that a line defines and those that it reads, each once. Those of one line can be put in the place of another's.
 #[derive(Drop)]
 pub struct LineSymbols {
-    defined: IndexSet<Name, Hashing>,
-    read: IndexSet<Name, Hashing>,
+    defined: NamesOnce,
+    read: NamesOnce,
 }
 
 impl Model for LineSymbols {
@@ -21,7 +20,7 @@ impl Model for LineSymbols {
 
     ghost Value = { LineSymbols };
 
-    ghost view = { λ symbols. record { defined = symbols.defined.keys; read = symbols.read.keys } };
+    ghost view = { λ symbols. record { defined = symbols.defined; read = symbols.read } };
 }
 
 impl LineSymbols {
@@ -30,8 +29,8 @@ impl LineSymbols {
         ensures { result ≡ record { defined = []; read = [] } }
     {
         LineSymbols {
-            defined: IndexSet::with_hasher(alloc, hashing),
-            read: IndexSet::with_hasher(alloc, hashing),
+            defined: NamesOnce::new(alloc, hashing),
+            read: NamesOnce::new(alloc, hashing),
         }
     }
 
@@ -44,10 +43,8 @@ impl LineSymbols {
     ) -> Result<(), AllocError>
         ensures { OnOk result (self.new ≡ record { defined = defined_by puts.now; read = read_by reads.now items.now }) }
     {
-        self.defined.clear();
-        self.read.clear();
-        insert_defined(&mut self.defined, puts)?;
-        insert_read(&mut self.read, reads, items)
+        self.defined.replace_defined(puts)?;
+        self.read.replace_read(reads, items)
     }
 
     /// The symbols that the line defines.

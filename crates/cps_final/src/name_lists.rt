@@ -1,12 +1,10 @@
 //! The symbols of a line that is kept, in lists without room for more.
 ghost use Rattle.std.specs.Prelude.{◌≡◌, [], IfOk};
-ghost use Rattle.std.specs.List.{list_any};
-ghost use Rattle.cps_expr.specs.Value.{same_name};
 ghost use Rattle.cps_final.specs.LineNames.{names_defined, names_read};
 
 use crate::kept_names::KeptNames;
 use crate::line_names::{NameSet, insert_defined, insert_read};
-use cps_expr::is_same_name;
+use crate::names_once::has_name;
 use cps_state::{Hashing, Trace};
 use cps_text::Name;
 use indexmap::IndexSet;
@@ -73,10 +71,4 @@ impl NameSet for FewNames {
         }
         self.names.push(self.alloc, name)
     }
-}
-
-fn has_name(names: &[Name], name: Name) -> bool
-    ensures { result ≡ list_any (same_name name) names.now }
-{
-    names.iter().any(|other| is_same_name(name, *other))
 }
