@@ -1,6 +1,6 @@
 -- Layouts: with the words that one more put gives, and of maps with the same entries.
-use Rattle.std.proofs.Common.{◌≡◌, ℕ, ◌+◌, ◌<◌, Bool, true, false, cond, ◌||◌, List, [], ◌∷◌, ◌++◌, length, get_or, drop, take, Option, None, Some, max, refl, sym, ap, ◌∙◌, arith}
-use Rattle.std.specs.Prelude.{option_map, unwrap_or, if◌then◌else◌, ◌&&◌, ◌==◌}
+use Rattle.std.proofs.Common.{◌≡◌, ℕ, ◌+◌, ◌<◌, ◌≤◌, Bool, true, false, cond, ◌||◌, List, [], ◌∷◌, ◌++◌, length, get_or, drop, take, Option, None, Some, max, refl, sym, ap, ◌∙◌, arith}
+use Rattle.std.specs.Prelude.{option_map, unwrap_or, position, if◌then◌else◌, ◌&&◌, ◌==◌}
 use Rattle.std.specs.Cmp.{IsEquivalence}
 use Rattle.std.specs.Cmp.Lexicographic.{pointwise, bytes_decides}
 use Rattle.std.specs.List.{list_any, sum_by, slice_get}
@@ -10,8 +10,12 @@ use Rattle.std.proofs.lemmas.Bool.{and_parts, eqb-true}
 use Rattle.std.proofs.lemmas.Cmp.{nat_list_eq_equiv}
 use Rattle.std.proofs.lemmas.List.{drop_more, length-append, take_more}
 use Rattle.std.proofs.lemmas.List.Sums.{sum_by-append}
-use Rattle.std.proofs.lemmas.Option.{slice_get_within, get_or_from_slice_get, slice_get-map}
-use Rattle.indexmap.specs.IndexMap.{IndexMap, keys, get, insert_entry, Updates}
+use Rattle.std.proofs.lemmas.List.Folds.{list_any_at}
+use Rattle.std.proofs.lemmas.List.Quantifiers.{position-Some}
+use Rattle.std.proofs.lemmas.Map.Entries.{hash_map_get_place}
+use Rattle.std.proofs.lemmas.Option.{slice_get_within, get_or_from_slice_get, slice_get-get_or, slice_get-map}
+use Rattle.indexmap.specs.IndexMap.{IndexMap, keys, values, get, insert_entry, with_value_at, IsUnique, Updates}
+use Rattle.indexmap.proofs.CallerLemmas.{keys-with_value_at, updates-with_value_at}
 use Rattle.indexmap.specs.IndexSet.{insert_key, insert_all}
 use Rattle.cps_text.specs.declared.name.Name.{Name}
 use Rattle.cps_expr.specs.declared.machine.Machine.TheVariants.{Cp}
@@ -31,6 +35,9 @@ same_name-laws = record {
   symm = λ x y. nat_list_eq_equiv.symm x.bytes y.bytes;
   congr = λ x y z. nat_list_eq_equiv.congr x.bytes y.bytes z.bytes;
 }
+
+pub same_name-is : (a b : Name) → same_name a b ≡ true → a ≡ b
+same_name-is a b same = let bytes = (bytes_decides a.bytes b.bytes).0 same in λ i. record { bytes = bytes i }
 
 -- the keys of a map in which one more was inserted
 module _ {K X : Type 0} (eq : K → K → Bool) (k : K) (v : X) where
@@ -71,6 +78,34 @@ module _ {S : Type 0} (old new : IndexMap Name ℕ S) (name : Name) (words size 
       let named : keys new ≡ insert_key same_name (keys old) name = ap keys_of entries ∙ keys-insert_entry same_name name size old.entries in
       λ i. record { named = named i; size = λ block. size-inserted nominal block updates i }
 
+-- the entry at a place is the name and the words there
+entry-at : {S : Type 0} (m : IndexMap Name ℕ S) (i : ℕ) (name : Name) (size : ℕ) → slice_get (keys m) i ≡ Some name → Some size ≡ slice_get (values m) i
+    → slice_get m.entries i ≡ Some (name, size)
+entry-at m i name size name-is size-is =
+    by (slice_get m.entries i) (sym (slice_get-map (λ (e : Name × ℕ). e.0) m.entries i) ∙ name-is)
+    (size-is ∙ slice_get-map (λ (e : Name × ℕ). e.1) m.entries i)
+  where
+    by : (o : Option (Name × ℕ)) → option_map (λ e. e.0) o ≡ Some name → Some size ≡ option_map (λ e. e.1) o → o ≡ Some (name, size)
+    by None no-name no-size = cc
+    by (Some e) name-is size-is = λ j. Some (unwrap_or (name-is j) name, unwrap_or (sym size-is j) size)
+
+-- more words are written where the name stands
+module _ {S : Type 0} (m : IndexMap Name ℕ S) (i : ℕ) (name : Name) (size words written : ℕ) where
+  pub layout-written : (nominal : ℕ) → IsUnique same_name m → Some i ≡ position (same_name name) (keys m) → Some size ≡ slice_get (values m) i
+      → written ≡ max size words → layout_kept nominal (with_value_at m i written) ≡ grown_to (layout_kept nominal m) (Some name) words
+  layout-written nominal unique found was is =
+      let place = position-Some (same_name name) (keys m) i name (sym found) in
+      let here : name ≡ get_or (keys m) i name = same_name-is name (get_or (keys m) i name) place.1 in
+      let name-is : slice_get (keys m) i ≡ Some name = slice_get-get_or (keys m) i name place.0 ∙ ap Some (sym here) in
+      let entry = entry-at m i name size name-is was in
+      let known : get same_name m name ≡ Some size = hash_map_get_place same_name-laws m i name size unique entry in
+      let enough : written ≡ max (unwrap_or (get same_name m name) 0) words = is ∙ ap (λ (o : Option ℕ). max (unwrap_or o 0) words) (sym known) in
+      let updates = updates-with_value_at m i written same_name-laws unique name size entry in
+      let there : list_any (same_name name) (keys m) ≡ true = list_any_at (same_name name) (keys m) i name place.0 place.1 in
+      let named : keys (with_value_at m i written) ≡ insert_key same_name (keys m) name =
+      keys-with_value_at m i written ∙ sym (ap (λ (b : Bool). if b then keys m else keys m ++ name ∷ []) there) in
+      λ j. record { named = named j; size = λ block. size-inserted m (with_value_at m i written) name words written enough nominal block updates j }
+
 -- one put of the list is made
 pub grown-next : (layout before end : Layout) (puts : List Put) (i : ℕ) (p : Put) → i < length puts → p ≡ get_or puts i p → layout ≡ grown before p
     → grown_by before (drop i puts) ≡ end → grown_by layout (drop (i + 1) puts) ≡ end
@@ -83,6 +118,25 @@ pub names-next : (puts : List Put) (i : ℕ) (p : Put) → i < length puts → p
 names-next puts i p lt is =
     ap (λ ps. length (names_put ps)) (drop_more puts i p lt) ∙ length-append (named_by (get_or puts i p).key) (names_put (drop (i + 1) puts))
     ∙ ap (λ (q : Put). length (named_by q.key) + length (names_put (drop (i + 1) puts))) (sym is)
+
+-- a key is the counter of one named block at most
+named-one : (k : Key) → length (named_by k) ≤ 1
+named-one key.Control = omega arith
+named-one (key.Counter None) = omega arith
+named-one (key.Counter (Some b)) = omega arith
+named-one (key.Label b) = omega arith
+named-one (key.Setting b) = omega arith
+named-one key.Uses = omega arith
+named-one key.Ifs = omega arith
+named-one key.Blocks = omega arith
+named-one (key.Macro b) = omega arith
+named-one (key.Kept b) = omega arith
+named-one key.Locals = omega arith
+
+-- so puts are of no more named blocks than there are puts
+pub names-few : (puts : List Put) → length (names_put puts) ≤ length puts
+names-few [] = omega arith
+names-few (p ∷ puts) = omega (arith, named-one p.key, names-few puts, length-append (named_by p.key) (names_put puts))
 
 -- a put of a counter makes its block grow
 pub grown-counter : (layout new : Layout) (p : Put) (block : Option Name) (words : ℕ) → p.key ≡ key.Counter block → words ≡ words_before (place_of Cp (Some p.answer))
@@ -115,9 +169,6 @@ pub key-at : {S : Type 0} (m : IndexMap Name ℕ S) (i : ℕ) (name : Name) (siz
 key-at m i name size at = slice_get-map (λ (e : Name × ℕ). e.0) m.entries i ∙ ap (option_map (λ (e : Name × ℕ). e.0)) (sym at)
 
 -- ---- maps with the same entries
-
-pub same_name-is : (a b : Name) → same_name a b ≡ true → a ≡ b
-same_name-is a b same = let bytes = (bytes_decides a.bytes b.bytes).0 same in λ i. record { bytes = bytes i }
 
 same_entry : Name × ℕ → Name × ℕ → Bool
 same_entry p q = same_name p.0 q.0 && p.1 == q.1

@@ -1,5 +1,5 @@
 //! How large the blocks of a source are.
-ghost use Rattle.std.specs.Prelude.{◌≡◌, ◌↔◌, IfOk, IsTrue, ◌≤◌, ◌<◌, ◌+◌, ◌*◌, ◌^◌, [], OnOk, OnErr, IfSome, length, position};
+ghost use Rattle.std.specs.Prelude.{◌≡◌, ◌↔◌, IfOk, IsTrue, ◌≤◌, ◌<◌, ◌+◌, ◌*◌, ◌^◌, [], OnOk, OnErr, IfSome, Some as Just, length, position};
 ghost use Rattle.cps_code.specs.Place.{position as bits_before};
 ghost use Rattle.cps_expr.specs.declared.machine.Machine.TheVariants.{Cp};
 ghost use Rattle.cps_state.specs.declared.key.Key.TheVariants.{Counter};
@@ -12,11 +12,14 @@ ghost use Rattle.cps_final.specs.Code.Storage.{AreJoined, AreSameNamed};
 ghost use Rattle.indexmap.specs.IndexMap.{spare, keys};
 
 use cps_code::Place;
-use cps_expr::Machine;
+use cps_expr::{Machine, is_same_name};
 use cps_state::{Hashing, Key, Put, place_of};
 use cps_text::Name;
 use indexmap::IndexMap;
 use std::alloc::{AllocError, Global};
+
+/// The most named blocks that are looked through one by one.
+const FEW: usize = 8;
 
 /// The words that each block has so far.
 #[derive(Drop)]
@@ -70,6 +73,10 @@ impl Blocks {
         ensures same { layout_kept self.new.nominal self.new.named ≡ layout_kept self.old.nominal self.old.named }
         ensures room { OnOk result (length (names_put puts.now) ≤ spare self.new.named) }
     {
+        let spare = self.named.capacity() - self.named.len();
+        if puts.len() <= spare {
+            return Ok(());
+        }
         self.named.reserve(count_named(puts))
     }
 
@@ -120,13 +127,28 @@ impl Blocks {
     {
         match block {
             None => self.nominal = self.nominal.max(words),
-            Some(name) => {
-                let size = self.size(block).max(words);
-                let Ok(_) = self.named.insert(name, size) else {
-                    unreachable!();
-                };
-            }
+            Some(name) => match self.index_of(name) {
+                Some(index) => {
+                    let Some(size) = self.named.get_index_mut(index) else {
+                        unreachable!();
+                    };
+                    *size = (*size).max(words);
+                }
+                None => self.insert(name, words),
+            },
         }
+    }
+
+    /// With a named block that has so many words at least.
+    fn insert(&mut self, name: Name, words: u32)
+        requires { 1 ≤ spare self.old.named }
+        ensures layout { layout_kept self.new.nominal self.new.named ≡ grown_to (layout_kept self.old.nominal self.old.named) (Just name) words }
+        ensures room { spare self.old.named ≤ spare self.new.named + 1 }
+    {
+        let size = self.size(Some(name)).max(words);
+        let Ok(_) = self.named.insert(name, size) else {
+            unreachable!();
+        };
     }
 
     /// The words of a block.
@@ -142,12 +164,15 @@ impl Blocks {
         }
     }
 
-    /// The number of named blocks before a block.
+    /// The number of named blocks before a block. A few are looked through; among more an index finds it.
     pub fn index_of(&self, name: Name) -> Option<usize>
         ensures index { result ≡ position (same_name name) (layout_kept self.now.nominal self.now.named).named }
         ensures within { IfSome result (λ index. index < length (keys self.now.named)) }
     {
-        self.named.get_index_of(&name)
+        if self.named.len() > FEW {
+            return self.named.get_index_of(&name);
+        }
+        place_among(self.named.keys().as_slice(), name)
     }
 
     /// The words of the first so many named blocks.
@@ -165,6 +190,15 @@ impl Blocks {
         }
         words
     }
+}
+
+/// How many names stand before a name.
+#[inline(always)]
+fn place_among(names: &[Name], name: Name) -> Option<usize>
+    ensures place { result ≡ position (same_name name) names.now }
+    ensures within { IfSome result (λ place. place < length names.now) }
+{
+    names.iter().position(|other| is_same_name(name, *other))
 }
 
 /// How many puts are of counters of named blocks.

@@ -130,6 +130,7 @@ impl Storage {
     }
 
     /// The address of the first word of a block; None: the block has no put. The nominal block (None) stands at 0.
+    #[inline(always)]
     pub fn base(&self, block: Option<Name>) -> Option<Value>
         ensures base { result ≡ final_value (stored self.now) (block_named block) }
         ensures range { IfSome result IsInRange }

@@ -1,11 +1,15 @@
-use Rattle.std.proofs.Common.{max, Option, sym, ap, ◌∙◌}
+use Rattle.std.proofs.Common.{Option, sym, ap, ◌∙◌}
 use Rattle.cps_text.specs.declared.name.Name.{Name}
 use Rattle.cps_final.specs.Code.Gathering.{layout_kept, grown_to}
-use Rattle.cps_final.proofs.BlockLemmas.{layout-inserted}
+use Rattle.cps_final.proofs.BlockLemmas.{layout-written}
 use Rattle.cps_final.proofs.blocks.Blocks.put_words.Goals as goal
 
-pub returns-in-Ok-clause-layout : goal.returns-in-Ok-clause-layout
-returns-in-Ok-clause-layout c =
-    layout-inserted c.args.self.now.named c.insert.new.self c.in-Some.name c.args.words c.max-size.result (c.max-size.ensures ∙ ap (λ n. max n c.args.words) c.size.ensures)
-    c.args.self.now.nominal c.in-Ok.ensures.updates c.in-Ok.ensures.entries
+pub returns-in-Some-get_index_mut-clause-layout : goal.returns-in-Some-get_index_mut-clause-layout
+returns-in-Some-get_index_mut-clause-layout c =
+    layout-written c.args.self.now.named c.in-Some-index_of.index c.in-Some.name c.in-Some-get_index_mut.size.now c.args.words c.max.result c.args.self.now.nominal
+    c.in-Some-get_index_mut.ensures.unique (sym c.in-Some-index_of.is ∙ c.index_of.ensures.index) c.in-Some-get_index_mut.ensures.value c.max.ensures
     ∙ ap (λ (b : Option Name). grown_to (layout_kept c.args.self.now.nominal c.args.self.now.named) b c.args.words) (sym c.in-Some.is)
+
+pub returns-in-None-index_of-clause-layout : goal.returns-in-None-index_of-clause-layout
+returns-in-None-index_of-clause-layout c =
+    c.insert.ensures.layout ∙ ap (λ (b : Option Name). grown_to (layout_kept c.args.self.now.nominal c.args.self.now.named) b c.args.words) (sym c.in-Some.is)
