@@ -2,7 +2,6 @@
 use Rattle.std.proofs.Common.{◌≡◌, refl, sym, ap, ◌∙◌, ℕ, ◌+◌, ◌<◌, ◌≤◌, Bool, true, false, ◌||◌, List, length, get_or, take, Option, None, Some, arith}
 use Rattle.std.specs.Prelude.{is_some, unwrap_or, if◌then◌else◌}
 use Rattle.std.specs.List.{list_any, slice_get, IsDistinct}
-use Rattle.std.specs.HashMap.{get}
 use Rattle.std.proofs.lemmas.Option.{slice_get_within, get_or_from_slice_get}
 use Rattle.std.proofs.lemmas.List.{length-take, get_or-take, take_all}
 use Rattle.std.proofs.lemmas.List.Folds.{list_any_none, list_any_more}
@@ -14,6 +13,7 @@ use Rattle.cps_state.specs.contracts.key.KeyEq.TheImpl.Laws.{laws-law}
 use Rattle.cps_state.specs.declared.state.State.{State as KeptState}
 use Rattle.cps_state.specs.Code.Exchange.{with_answer}
 use Rattle.cps_state.specs.Code.KeptAnswers.{answers_in}
+use Rattle.cps_state.specs.Code.OtherAnswers.{answer_of}
 use Rattle.cps_state.specs.Keys.{State, same_key}
 use Rattle.cps_state.proofs.KnownLemmas.{same_key_is, same_key-true}
 use Rattle.cps_final.specs.declared.changes.Changes.{Changes as KeptChanges}
@@ -23,7 +23,7 @@ use Rattle.cps_final.proofs.KeptLemmas.{eq, has-key}
 
 -- what stands in a state
 abbrev pub state_in : KeptState → State
-state_in state = answers_in state.control state.nominal state.uses state.blocks state.ranges state.locals (get eq state.others)
+state_in state = answers_in state.control state.nominal state.uses state.blocks state.ranges state.locals (answer_of state.others)
 
 -- behind an exchange at some keys
 pub record Exchanged (ks : List Key) (now : Changed) (state : State) (next : Changed) (next_state : State) : Type 0 where

@@ -4,5 +4,6 @@ pub mod FlagLemmas
 pub mod KnownLemmas
 pub mod LineLemmas
 pub mod LogLemmas
+pub mod OtherLemmas
 pub mod PlaceLemmas
 pub mod StateLemmas

@@ -2,6 +2,7 @@
 pub mod ContentsKept
 pub mod Exchange
 pub mod KeptAnswers
+pub mod OtherAnswers
 pub mod Line
 pub mod Log
 pub mod MadeKept

@@ -12,6 +12,7 @@
 //! - `lookup.rt`: the trait of what answers keys
 //! - `machines.rt`: the words of the two machines
 //! - `made.rt`: what a statement made: contents, zeros, fillings, flags
+//! - `other_answers.rt`: what stands at the keys at which nothing may stand too
 //! - `recorder.rt`: what a line has done so far, over the state that answers it
 //! - `scratch.rt`: lists that one line hands on to the next
 //! - `shared.rt`: lists that are shared and not changed
@@ -34,6 +35,7 @@ mod log;
 mod lookup;
 mod machines;
 mod made;
+mod other_answers;
 mod recorder;
 mod scratch;
 mod shared;

@@ -1,6 +1,5 @@
 //! The state of an assembly.
 ghost use Rattle.std.specs.Prelude.{◌≡◌, ◌<◌, ◌≤◌, ◌+◌, true, [], OnOk, OnErr, Some as Just, length, reverse};
-ghost use Rattle.std.specs.HashMap as hash;
 ghost use Rattle.cps_state.specs.Code.Exchange.{MayStand, room_of, with_answer};
 ghost use Rattle.cps_state.specs.Code.KeptAnswers.{is_other};
 ghost use Rattle.cps_state.specs.Keys.{first_state, with_put, overwritten};
@@ -10,13 +9,13 @@ use crate::answers::{first_control, first_place, value_of};
 use crate::hashing::Hashing;
 use crate::key::{Answer, Key, Put, share_puts};
 use crate::lookup::Lookup;
+use crate::other_answers::OtherAnswers;
 use crate::shared::Shared;
 use crate::shared_mode::SharedMode;
 use crate::trace::Trace;
 use cps_expr::{Names, Value};
 use cps_text::Name;
 use std::alloc::{AllocError, Global};
-use std::collections::HashMap;
 use std::mem;
 
 /// What stands at each key between two lines. What always stands is kept apart from the rest.
@@ -29,16 +28,16 @@ pub struct State {
     blocks: Answer,
     ranges: Answer,
     locals: Answer,
-    others: HashMap<Key, Answer, Hashing>,
+    others: OtherAnswers,
     /// For the answers of a line, before they are put.
     shared: Vec<Put>,
 }
 
 impl Lookup for State {
-    ghost use Rattle.std.specs.HashMap as hash;
     ghost use Rattle.cps_state.specs.Code.KeptAnswers.{answers_in};
+    ghost use Rattle.cps_state.specs.Code.OtherAnswers.{answer_of};
 
-    ghost answer = { λ state. answers_in state.control state.nominal state.uses state.blocks state.ranges state.locals (hash.get ⟦<Key as PartialEq>⟧.eq state.others) };
+    ghost answer = { λ state. answers_in state.control state.nominal state.uses state.blocks state.ranges state.locals (answer_of state.others) };
 
     #[inline(always)]
     fn ask(&self, key: &Key) -> Option<&Answer> {
@@ -49,13 +48,13 @@ impl Lookup for State {
             Key::Blocks => Some(&self.blocks),
             Key::Ifs => Some(&self.ranges),
             Key::Locals => Some(&self.locals),
-            _ => self.others.get(key),
+            _ => self.others.answer_at(key),
         }
     }
 
     #[inline(always)]
     fn hashing(&self) -> Hashing {
-        *self.others.hasher()
+        self.others.hashing()
     }
 }
 
@@ -83,7 +82,7 @@ impl State {
             blocks: Answer::Count(0),
             ranges: Answer::Ifs(Shared::empty()),
             locals: Answer::Count(0),
-            others: HashMap::with_hasher(alloc, hashing),
+            others: OtherAnswers::new(alloc, hashing),
             shared: Vec::new(alloc),
         }
     }
@@ -125,21 +124,8 @@ impl State {
             Key::Blocks => Some(mem::replace(&mut self.blocks, answer)),
             Key::Ifs => Some(mem::replace(&mut self.ranges, answer)),
             Key::Locals => Some(mem::replace(&mut self.locals, answer)),
-            key => self.exchange_other(key, answer),
+            key => self.others.exchange(key, answer),
         }
-    }
-
-    fn exchange_other(&mut self, key: Key, answer: Answer) -> Option<Answer>
-        requires room { 0 < room_of self.old }
-        requires other { is_other key ≡ true }
-        ensures old { result ≡ ⟦<State as Lookup>⟧.answer self.old key }
-        ensures answer { (k : Key) → ⟦<State as Lookup>⟧.answer self.new k ≡ with_answer (⟦<State as Lookup>⟧.answer self.old) key (Just answer) k }
-        ensures room { room_of self.old ≤ room_of self.new + 1 }
-    {
-        let Ok(old) = self.others.insert(key, answer) else {
-            unreachable!();
-        };
-        old
     }
 
     /// Puts the answers of a line, in their order.

@@ -1,9 +1,9 @@
 use Rattle.std.proofs.Common.{Some, sym, ap, ◌∙◌}
 use Rattle.indexmap.proofs.CallerLemmas.{keys-with_value_at, index_map_len-with_value_at}
-use Rattle.std.specs.HashMap.{get}
+use Rattle.cps_state.specs.Code.OtherAnswers.{answer_of}
 use Rattle.cps_final.specs.Changes.{with_change}
 use Rattle.cps_final.specs.Code.Kept.{changes_in}
-use Rattle.cps_final.proofs.KeptLemmas.{eq, at-place, written-at, may-stand, answer-changed, stands-next, stands-always}
+use Rattle.cps_final.proofs.KeptLemmas.{at-place, written-at, may-stand, answer-changed, stands-next, stands-always}
 use Rattle.cps_final.proofs.changes.Changes.exchange_at.Goals as goal
 
 pub replace-requires-clause-stands : goal.replace-requires-clause-stands
@@ -32,6 +32,6 @@ returns-clause-stands c =
     let state = c.args.state.now in
     stands-next (changes_in c.args.self.now) _ c.args.key c.replace.result c.requires.stands
     (λ always none.
-    stands-always state.control state.nominal state.uses state.blocks state.ranges state.locals (get eq state.others) c.args.key always
+    stands-always state.control state.nominal state.uses state.blocks state.ranges state.locals (answer_of state.others) c.args.key always
     (sym c.replace.ensures.old ∙ none))
     (written-at c.args.self.now.answers c.args.i c.args.key _ c.replace.result c.in-Some.ensures.unique c.requires.there c.in-Some.ensures.value)
