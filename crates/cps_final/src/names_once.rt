@@ -116,6 +116,7 @@ fn clear_set(names: &mut IndexSet<Name, Hashing>)
 }
 
 /// Whether a name is among a few.
+#[inline(always)]
 pub fn has_name(names: &[Name], name: Name) -> bool
     ensures { result ≡ list_any (same_name name) names.now }
 {

@@ -61,6 +61,7 @@ impl<'a> PlacedStatement<'a> {
     }
 
     /// What an expression of the statement gives.
+    #[inline(always)]
     pub fn value(&self, expression: &Expr) -> Valued
         ensures value { result.value ≡ value_in (view_of self.now).known.symbols (plain (pos (view_of self.now).here)) expression.now }
         ensures undefined { result.undefined ≡ has_undefined (view_of self.now).known.symbols expression.now }

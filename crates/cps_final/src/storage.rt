@@ -40,6 +40,7 @@ impl Storage {
     }
 
     /// Makes room for what a line puts, and for its literals, which it gives.
+    #[inline(always)]
     pub(crate) fn make_room(&mut self, puts: &[Put], items: &[Item]) -> Result<Vec<u64>, AllocError>
         ensures same { stored self.new ≡ stored self.old }
         ensures literals { IfOk result (λ literals. literals.items ≡ literals_among items.now) }
@@ -52,6 +53,7 @@ impl Storage {
     }
 
     /// With one more line, whose literals these are, where there is room for it.
+    #[inline(always)]
     pub(crate) fn take(&mut self, puts: &[Put], items: &[Item], literals: &[u64])
         requires room { HasRoom self.old puts.now literals.now }
         requires literals { literals.now ≡ literals_among items.now }
@@ -61,10 +63,9 @@ impl Storage {
     {
         self.blocks.put_all(puts);
         insert_literals(&mut self.pool, literals);
-        self.program = match self.program {
-            Some(name) => Some(name),
-            None => first_program(items),
-        };
+        if self.program.is_none() {
+            self.program = first_program(items);
+        }
     }
 
     /// With one more line. Where there is no memory, nothing changes.
