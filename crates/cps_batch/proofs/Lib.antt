@@ -1,3 +1,4 @@
 pub mod SourceLemmas
 pub mod BatchLemmas
+pub mod KeptLemmas
 pub mod PassLemmas

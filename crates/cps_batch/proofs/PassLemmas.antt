@@ -1,15 +1,13 @@
 -- The two passes of batch assembly, one line more, and the whole.
 use Rattle.std.proofs.Common.{◌≡◌, ℕ, Bool, true, false, ◌+◌, ◌<◌, ◌≤◌, refl, sym, ap, subst, ◌∙◌, List, [], ◌∷◌, ◌++◌, length, get_or, take, arith}
-use Rattle.std.proofs.lemmas.List.{length-append, length-map, take_more, take_all}
+use Rattle.std.proofs.lemmas.List.{length-map, take_more, take_all}
 use Rattle.cps_state.specs.declared.item.Item.{Item}
 use Rattle.cps_state.specs.Keys.{State, first_state, overwritten}
-use Rattle.std.specs.Prelude.{flat_map, nat_eq}
+use Rattle.std.specs.Prelude.{Option, None, Some, flat_map, nat_eq}
 use Rattle.std.specs.Option.{option_or}
 use Rattle.cps_state.specs.declared.key.Put.{Put}
 use Rattle.cps_state.specs.Course.{Trace, unasked}
-use Rattle.cps_state.specs.Code.Scratch.{Scratch, blank_scratch, statements_on}
-use Rattle.cps_input.specs.Code.Parts.{RisesTo}
-use Rattle.cps_input.proofs.PartLemmas.{count-parts, parts-more, rises-more}
+use Rattle.cps_state.specs.Code.Scratch.{Scratch}
 use Rattle.cps_pass.specs.Expansion.{trace_of}
 use Rattle.cps_final.specs.Distinct.{distinct}
 use Rattle.cps_final.specs.Layout.{layout_of, puts_of}
@@ -22,10 +20,11 @@ use Rattle.cps_list.specs.Code.Making.{Printout, IsPrintoutOf, shown}
 use Rattle.cps_list.specs.Symbols.{mentions_from, mentions_on}
 use Rattle.cps_list.proofs.PrintoutLemmas.{mentions-more, shown-more}
 use Rattle.cps_edit.specs.Assembly.{after, state_after, traces_from, traces_of, outcomes_under}
+use Rattle.cps_batch.specs.declared.kept_lines.KeptStatements.{KeptStatements}
 use Rattle.cps_batch.specs.declared.passes.BatchPassOne.{BatchPassOne}
 use Rattle.cps_batch.specs.declared.passes.PassTwo.{PassTwo}
 use Rattle.cps_final.specs.contracts.finals.FinalsGathered.TheImpl.{gathered-value}
-use Rattle.cps_batch.specs.Code.Passes.{statements_of, AreParts, IsNext, IsPassed, IsShown}
+use Rattle.cps_batch.specs.Code.Passes.{statements_of, AreBegun, IsAnyKept, IsNext, IsPassed, IsShown}
 use Rattle.cps_edit.proofs.SpliceLemmas.{traces_from-append, length-traces_from, puts-state}
 
 -- the trace of the line after those that were gathered
@@ -65,20 +64,11 @@ pub gathered-next : (finals : Finals) (before : List (List ℕ)) (line : List �
 gathered-next finals before line front scratch next gathered =
     gathered ∙ finals-unasked (traces_of before) scratch.line next.trace next.stands.line ∙ ap finals_of (sym next.traces)
 
--- ---- the statements of lines, as parts of one list
+-- ---- the statements of lines that are kept
 
-pub none-kept : (ends : List ℕ) (scratch : Scratch) → ends ≡ [] → scratch ≡ blank_scratch → AreParts ends (statements_on scratch) []
-none-kept ends scratch none blank =
-    subst (λ (es : List ℕ). AreParts es (statements_on scratch) []) (sym none) (subst (λ (s : Scratch). AreParts [] (statements_on s) []) (sym blank) (record { rise = refl; are = refl }))
-
-pub part-kept : (ends more : List ℕ) (front items : List Item) (parts : List (List Item)) (size : ℕ) → more ≡ ends ++ size ∷ [] → size ≡ length (front ++ items)
-    → AreParts ends front parts → AreParts more (front ++ items) (parts ++ items ∷ [])
-part-kept ends more front items parts size is long so =
-    let rises = rises-more 0 (length front) size ends so.rise (omega (arith, long, length-append front items)) in
-    subst (λ (es : List ℕ). AreParts es (front ++ items) (parts ++ items ∷ [])) (sym is) (record {
-      rise = subst (λ n. RisesTo 0 (ends ++ size ∷ []) n) long rises;
-      are = parts-more 0 size ends front items so.rise long ∙ ap (λ (ps : List (List Item)). ps ++ items ∷ []) so.are;
-    })
+pub begun-kept : (kept : Option KeptStatements) (items : List Item) (statements : List (List Item)) → IsAnyKept kept items statements → AreBegun kept items
+begun-kept None items statements so = so
+begun-kept (Some kept) items statements so = so.rise
 
 -- ---- one line more
 
@@ -147,10 +137,9 @@ two-all finals two printout lines i past same is so =
     subst (λ p. IsPrintoutOf lines (outcomes_under finals (traces_of lines)) p) (sym is)
     (subst (λ fs. IsPrintoutOf lines (outcomes_under fs (traces_of lines)) two.printout) same (subst (λ ls. IsShown ls two) all so))
 
--- as many parts are kept as there are lines
-pub kept-length : (ends : List ℕ) (items : List Item) (lines : List (List ℕ)) → AreParts ends items (statements_of (traces_of lines)) → length ends ≡ length lines
-kept-length ends items lines so =
-    sym (count-parts 0 ends items) ∙ ap length so.are ∙ length-map (traces_of lines) (λ (trace : Trace). trace.items) ∙ length-traces_from first_state lines
+-- each line has its statements
+pub statements-length : (lines : List (List ℕ)) → length (statements_of (traces_of lines)) ≡ length lines
+statements-length lines = length-map (traces_of lines) (λ (trace : Trace). trace.items) ∙ length-traces_from first_state lines
 
 -- the number of the line after the first so many
 pub number-taken : (lines : List (List ℕ)) (i : ℕ) → i < length lines → i + 1 ≡ length (take i lines) + 1

@@ -2,6 +2,7 @@
 //!
 //! - `assembling.rt`: batch assembly as a whole
 //! - `fault.rt`: why a source is not assembled, or its texts not written
+//! - `kept_lines.rt`: the statements of lines, kept for pass two
 //! - `passes.rt`: both passes over the lines
 //! - `source.rt`: the source
 //! - `source_words.rt`: the words of a source, without its texts
@@ -9,6 +10,7 @@
 
 mod assembling;
 mod fault;
+mod kept_lines;
 mod passes;
 mod source;
 mod source_words;

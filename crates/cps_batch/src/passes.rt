@@ -1,17 +1,19 @@
 //! The two passes of batch assembly over the lines of a source.
-ghost use Rattle.std.specs.Prelude.{◌≡◌, ℕ, List, [], ◌∷◌, ◌++◌, ◌+◌, ◌≤◌, ◌<◌, length, IfOk, OnOk};
+ghost use Rattle.std.specs.Prelude.{◌≡◌, ℕ, List, [], ◌∷◌, ◌++◌, ◌+◌, ◌≤◌, ◌<◌, drop, length, IfOk, OnOk};
 ghost use Rattle.cps_state.specs.Code.Scratch.{statements_on};
 ghost use Rattle.cps_list.specs.Code.Making.{shows_symbols};
 ghost use Rattle.cps_list.specs.Texts.{text_of};
 ghost use Rattle.cps_edit.specs.Assembly.{assembly_of, traces_of};
 ghost use Rattle.cps_edit.specs.Flagged.{flagged_lines};
 ghost use Rattle.cps_batch.specs.Code.Words.{AreWordsOf};
-ghost use Rattle.cps_batch.specs.Code.Passes.{AreKeptParts, AreParts, AreShown, GathersNext, IsPassed, IsShown, KeepsOn, PassesOn, ShowsOn, ShowsStatements, StepsNext, noted, statements_of};
+ghost use Rattle.cps_batch.specs.Code.KeptLines.{statements_in};
+ghost use Rattle.cps_batch.specs.Code.Passes.{AreBegun, AreShown, GathersNext, IsAnyKept, IsPassed, IsShown, KeepsOn, PassesOn, ShowsOn, ShowsStatements, ShowsTo, StepsNext, noted, statements_of};
 ghost use Rattle.cps_edit.specs.Code.PassOne.{AreGathered};
 
+use crate::kept_lines::{KeptLines, KeptStatements};
 use crate::source_words::SourceWords;
 use cps_final::{Finals, Gather, Gathered, LineSymbols, Output};
-use cps_input::{LineText, part_at};
+use cps_input::LineText;
 use cps_list::{Mention, Part, Printout, push_mentions};
 use cps_pass::step_unasked;
 use cps_state::{Hashing, Item, Scratch, Work};
@@ -19,8 +21,10 @@ use cps_text::limits::MOST_LINES;
 use std::alloc::{AllocError, Global};
 use std::mem::replace;
 
-/// Statements and their contents are kept for pass two up to so many. Where the lines make more, each line is gone through again.
-const MOST_KEPT: usize = 400_000;
+/// Statements are kept for pass two up to so many, or to so many a line where that is more. Where the lines make more, each line is gone through again.
+const MOST_KEPT: usize = 82_000;
+
+const MOST_KEPT_A_LINE: usize = 4;
 
 /// A text of a source, and the number of flagged lines.
 pub fn make_part(
@@ -45,7 +49,7 @@ pub fn make_words(
     requires { length lines.now ≤ MOST_LINES }
     ensures { IfOk result (AreWordsOf lines.now) }
 {
-    let one = BatchPassOne::of(alloc, hashing, lines, Part::Binary)?;
+    let mut one = BatchPassOne::of(alloc, hashing, lines, Part::Binary)?;
     one.make_words(alloc, lines)
 }
 
@@ -53,10 +57,12 @@ pub fn make_words(
 struct BatchPassOne {
     part: Part,
     gather: Gather,
-    /// Where the statements of each line end among those on the scratch. None: they are too many, and none is kept.
-    ends: Option<Vec<usize>>,
-    /// How many statements and contents there are.
+    /// The statements of the lines, but for those on the scratch. None: they are too many, and none is kept.
+    kept: Option<KeptStatements>,
+    /// How many statements there are, one with several contents for as many.
     count: usize,
+    /// How many are kept at most.
+    most: usize,
     scratch: Scratch,
     symbols: LineSymbols,
     mentions: Vec<Mention>,
@@ -68,14 +74,15 @@ impl Drop for BatchPassOne {
         let BatchPassOne {
             part: _,
             gather,
-            ends,
+            kept,
             count: _,
+            most: _,
             scratch,
             symbols,
             mentions,
         } = self;
         drop(gather);
-        drop(ends);
+        drop(kept);
         drop(scratch);
         drop(symbols);
         drop(mentions);
@@ -83,16 +90,17 @@ impl Drop for BatchPassOne {
 }
 
 impl BatchPassOne {
-    /// Of no line. Takes no memory yet.
-    fn new(alloc: Global, hashing: Hashing, part: Part) -> BatchPassOne
+    /// Of no line. At most so many statements are to be kept. Takes no memory yet.
+    fn new(alloc: Global, hashing: Hashing, part: Part, most: usize) -> BatchPassOne
         ensures passed { IsPassed [] result }
         ensures part { result.part ≡ part }
     {
         BatchPassOne {
             part,
             gather: Gather::new(alloc, hashing),
-            ends: Some(Vec::new(alloc)),
+            kept: Some(KeptStatements::none(alloc)),
             count: 0,
+            most,
             scratch: Scratch::new(alloc),
             symbols: LineSymbols::new(alloc, hashing),
             mentions: Vec::new(alloc),
@@ -110,7 +118,7 @@ impl BatchPassOne {
         ensures passed { IfOk result (IsPassed lines.now) }
         ensures part { IfOk result (λ one. one.part ≡ part) }
     {
-        let mut one = BatchPassOne::new(alloc, hashing, part);
+        let mut one = BatchPassOne::new(alloc, hashing, part, most_kept(lines.len()));
         for before in 0..lines.len() {
             one.take_line(alloc, before as u32 + 1, lines.line(before))?;
         }
@@ -119,6 +127,7 @@ impl BatchPassOne {
 
     /// Takes the next line.
     fn take_line(&mut self, alloc: Global, number: u32, line: &[u8]) -> Result<(), AllocError>
+        requires { (lines : List (List ℕ)) × IsPassed lines self.old }
         ensures passed { OnOk result (PassesOn line.now number self.old self.new) }
         ensures part { OnOk result (self.new.part ≡ self.old.part) }
     {
@@ -132,7 +141,8 @@ impl BatchPassOne {
         )?;
         self.count = counted(self.count, self.scratch.items());
         self.gather.take(&mut self.scratch)?;
-        keep(alloc, &mut self.ends, self.count, &mut self.scratch)?;
+        let is_much = self.count > self.most;
+        keep(alloc, &mut self.kept, is_much, &mut self.scratch)?;
         Ok(())
     }
 
@@ -150,9 +160,9 @@ impl BatchPassOne {
     }
 
     /// The words of these lines, and the number of flagged ones.
-    fn make_words(&self, alloc: Global, lines: &LineText) -> Result<SourceWords, AllocError>
-        requires passed { IsPassed lines.now self.now }
-        requires part { self.now.part ≡ Part.Binary }
+    fn make_words(&mut self, alloc: Global, lines: &LineText) -> Result<SourceWords, AllocError>
+        requires passed { IsPassed lines.now self.old }
+        requires part { self.old.part ≡ Part.Binary }
         requires few { length lines.now ≤ MOST_LINES }
         ensures { IfOk result (AreWordsOf lines.now) }
     {
@@ -166,21 +176,23 @@ impl BatchPassOne {
         })
     }
 
-    /// What pass two shows of these lines.
-    fn show(&self, alloc: Global, lines: &LineText) -> Result<Printout, AllocError>
+    /// What pass two shows of these lines. The statements that were kept are let go as they are shown.
+    fn show(&mut self, alloc: Global, lines: &LineText) -> Result<Printout, AllocError>
         requires few { length lines.now ≤ MOST_LINES }
-        requires kept { AreKeptParts self.now.ends (statements_on self.now.scratch) (statements_of (traces_of lines.now)) }
-        ensures printout { IfOk result (AreShown self.now.gather lines.now) }
-        ensures part { IfOk result (λ printout. printout.part ≡ self.now.part) }
+        requires kept { IsAnyKept self.old.kept (statements_on self.old.scratch) (statements_of (traces_of lines.now)) }
+        ensures printout { IfOk result (AreShown self.new.gather lines.now) }
+        ensures part { IfOk result (λ printout. printout.part ≡ self.old.part) }
         ensures few { IfOk result (λ printout. printout.flagged ≤ MOST_LINES) }
+        ensures gather { self.new.gather ≡ self.old.gather }
     {
-        let finals = &self.gather;
-        match &self.ends {
-            Some(ends) => {
-                let items = self.scratch.all_items();
-                show_kept(alloc, self.part, lines, Statements { items, ends }, finals)
+        let kept = replace(&mut self.kept, None);
+        let scratch = replace(&mut self.scratch, Scratch::new(alloc));
+        match kept {
+            Some(kept) => {
+                let groups = kept.into_groups(scratch)?;
+                show_kept(alloc, self.part, lines, groups, &self.gather)
             }
-            None => show_again(alloc, self.part, lines, finals),
+            None => show_again(alloc, self.part, lines, &self.gather),
         }
     }
 }
@@ -202,31 +214,37 @@ fn note_symbols(
     push_mentions(mentions, number, symbols.defined(), symbols.read())
 }
 
-/// A count with some statements and their contents.
+/// How many statements of so many lines are kept at most.
+fn most_kept(lines: usize) -> usize {
+    lines.saturating_mul(MOST_KEPT_A_LINE).max(MOST_KEPT)
+}
+
+/// A count with some statements.
 fn counted(count: usize, items: &[Item]) -> usize {
-    let mut count = count.saturating_add(items.len());
+    let mut count = count;
     for item in items {
-        count = count.saturating_add(item.made.contents().len());
+        count = count.saturating_add(item.made.contents().len().max(1));
     }
     count
 }
 
-/// Keeps the statements of the line on a scratch. Where there are too many by now, their memory goes back.
+/// Keeps the statements of the line on a scratch. Where there are too many by now, the memory of all goes back.
 fn keep(
     alloc: Global,
-    ends: &mut Option<Vec<usize>>,
-    count: usize,
+    kept: &mut Option<KeptStatements>,
+    is_much: bool,
     scratch: &mut Scratch,
 ) -> Result<(), AllocError>
-    ensures { OnOk result (KeepsOn ends.old ends.new scratch.old scratch.new) }
+    requires { AreBegun kept.old scratch.old.before }
+    ensures { OnOk result (KeepsOn kept.old kept.new scratch.old scratch.new) }
 {
-    if count > MOST_KEPT {
-        *ends = None;
+    if is_much {
+        *kept = None;
         *scratch = Scratch::new(alloc);
         return Ok(());
     }
-    match ends {
-        Some(ends) => ends.push(scratch.all_items().len())?,
+    match kept {
+        Some(kept) => kept.end_line(alloc, scratch)?,
         None => scratch.clear_items(),
     }
     Ok(())
@@ -298,13 +316,28 @@ impl<'a> PassTwo<'a> {
         self.printout
             .add(number, line, self.output.rows(), self.output.pieces())
     }
-}
 
-/// The statements of lines, and where those of each line end.
-#[derive(Clone, Copy)]
-struct Statements<'a> {
-    items: &'a [Item],
-    ends: &'a [usize],
+    /// Adds lines whose statements were kept, behind so many that are shown.
+    fn add_group(
+        &mut self,
+        lines: &LineText,
+        shown: usize,
+        group: &KeptLines,
+    ) -> Result<(), AllocError>
+        requires few { length lines.now ≤ MOST_LINES }
+        requires flagged { self.old.printout.flagged ≤ shown }
+        requires kept { (rest : List (List Item)) × (drop shown (statements_of (traces_of lines.now)) ≡ group.now ++ rest) }
+        ensures shown { OnOk result (ShowsTo lines.now shown (shown + length group.now) self.old self.new) }
+        ensures finals { OnOk result (self.new.finals.now ≡ self.old.finals.now) }
+        ensures part { OnOk result (self.new.printout.part ≡ self.old.printout.part) }
+        ensures few { OnOk result (self.new.printout.flagged ≤ shown + length group.now) }
+    {
+        for at in 0..group.len() {
+            let before = shown + at;
+            self.add(before as u32 + 1, lines.line(before), group.items(at))?;
+        }
+        Ok(())
+    }
 }
 
 /// What pass two shows of lines whose statements were kept.
@@ -312,19 +345,22 @@ fn show_kept(
     alloc: Global,
     part: Part,
     lines: &LineText,
-    kept: Statements<'_>,
+    groups: Vec<KeptLines>,
     finals: &Finals,
 ) -> Result<Printout, AllocError>
     requires few { length lines.now ≤ MOST_LINES }
-    requires kept { AreParts kept.ends.now kept.items.now (statements_of (traces_of lines.now)) }
+    requires kept { statements_in groups.items ≡ statements_of (traces_of lines.now) }
     ensures printout { IfOk result (AreShown finals.now lines.now) }
     ensures part { IfOk result (λ printout. printout.part ≡ part) }
     ensures few { IfOk result (λ printout. printout.flagged ≤ MOST_LINES) }
 {
     let mut two = PassTwo::new(alloc, part, finals);
-    for before in 0..lines.len() {
-        let items = part_at(kept.items, kept.ends, before);
-        two.add(before as u32 + 1, lines.line(before), items)?;
+    let mut left = groups;
+    left.reverse();
+    let mut shown = 0;
+    while let Some(group) = left.pop() {
+        two.add_group(lines, shown, &group)?;
+        shown += group.len();
     }
     Ok(two.take_printout(alloc, part))
 }

@@ -1,10 +1,9 @@
 -- For batch assembly, not part of what a reader believes: what its passes have made of the lines so far.
-use Rattle.std.specs.Prelude.{◌≡◌, ◌+◌, ℕ, Bool, List, [], ◌∷◌, ◌++◌, length, map, Option, IfSome}
-use Rattle.std.specs.declared.vec.Vec.{Vec}
+use Rattle.std.specs.Prelude.{◌≡◌, ◌+◌, ℕ, Bool, List, [], ◌∷◌, ◌++◌, length, map, take, Option, IfSome}
 use Rattle.cps_state.specs.declared.item.Item.{Item}
 use Rattle.cps_state.specs.Course.{Trace}
 use Rattle.cps_state.specs.Code.Scratch.{Scratch, StandsOn, statements_on}
-use Rattle.cps_input.specs.Code.Parts.{RisesTo, parts_at}
+use Rattle.cps_input.specs.Code.Parts.{RisesTo}
 use Rattle.cps_final.specs.declared.finals.Finals.{Finals as Gather}
 use Rattle.cps_final.specs.contracts.finals.FinalsGathered.TheImpl as finals
 use Rattle.cps_final.specs.Finals.{Finals}
@@ -12,6 +11,8 @@ use Rattle.cps_list.specs.Code.Making.{IsPrintoutOf, Printout, shown, shows_symb
 use Rattle.cps_list.specs.Symbols.{mentions_from, mentions_on}
 use Rattle.cps_list.specs.declared.mention.Mention.{Mention}
 use Rattle.cps_final.specs.LineNames.{names_defined, names_read}
+use Rattle.cps_batch.specs.Code.KeptLines.{AreKept}
+use Rattle.cps_batch.specs.declared.kept_lines.KeptStatements.{KeptStatements}
 use Rattle.cps_batch.specs.declared.passes.BatchPassOne.{BatchPassOne}
 use Rattle.cps_batch.specs.declared.passes.PassTwo.{PassTwo}
 use Rattle.cps_edit.specs.Assembly.{traces_of, outcomes_under}
@@ -21,18 +22,17 @@ use Rattle.cps_edit.specs.Code.PassOne.{AreGathered, IsTrace}
 abbrev pub statements_of : List Trace → List (List Item)
 statements_of traces = map (λ (trace : Trace). trace.items) traces
 
--- these are the parts of a list, by where each ends
-pub record AreParts (ends : List ℕ) (items : List Item) (parts : List (List Item)) : Type 0 where
-  pub rise : RisesTo 0 ends (length items)
-  pub are : parts_at 0 ends items ≡ parts
+-- the statements of each line, if they are kept, where the last stand on a scratch
+abbrev pub IsAnyKept : Option KeptStatements → List Item → List (List Item) → Type 0
+IsAnyKept kept items statements = IfSome kept (λ kept. AreKept kept items statements)
 
--- the parts of a list, where their ends are kept
-abbrev pub AreKeptParts : {Z : Type 0} → Option (Vec ℕ Z) → List Item → List (List Item) → Type 0
-AreKeptParts ends items parts = IfSome ends (λ ends. AreParts ends.items items parts)
+-- where statements are kept, those of the lines before end with these
+abbrev pub AreBegun : Option KeptStatements → List Item → Type 0
+AreBegun kept items = IfSome kept (λ kept. RisesTo 0 kept.ends.items (length items))
 
--- behind the parts that were kept come the statements of the line on a scratch
-abbrev pub KeepsOn : {Z : Type 0} → Option (Vec ℕ Z) → Option (Vec ℕ Z) → Scratch → Scratch → Type 0
-KeepsOn ends ends' old new = (parts : List (List Item)) → AreKeptParts ends old.before parts → AreKeptParts ends' (statements_on new) (parts ++ old.line.items ∷ [])
+-- behind the statements that were kept come those of the line on a scratch
+abbrev pub KeepsOn : Option KeptStatements → Option KeptStatements → Scratch → Scratch → Type 0
+KeepsOn kept kept' old new = (statements : List (List Item)) → IsAnyKept kept old.before statements → IsAnyKept kept' (statements_on new) (statements ++ old.line.items ∷ [])
 
 -- these are the statements of a line behind these lines
 abbrev pub AreStatements : List (List ℕ) → List ℕ → List Item → Type 0
@@ -55,7 +55,7 @@ GathersNext line old new = (lines : List (List ℕ)) → AreGathered lines old �
 -- pass one: what was gathered, the statements of each line, if they are kept, and the symbols, if they are shown
 pub record IsPassed (lines : List (List ℕ)) (one : BatchPassOne) : Type 0 where
   pub gathered : AreGathered lines one.gather
-  pub kept : AreKeptParts one.ends (statements_on one.scratch) (statements_of (traces_of lines))
+  pub kept : IsAnyKept one.kept (statements_on one.scratch) (statements_of (traces_of lines))
   pub mentions : (finals : Finals) → one.mentions.items ≡ shown (shows_symbols one.part) (mentions_from 1 (outcomes_under finals (traces_of lines)))
 
 -- pass one of lines, and of one line more with its number
@@ -77,6 +77,10 @@ ShowsOn lines line number old new = IsShown lines old → number ≡ length line
 -- behind any lines, a line that stands for these statements is shown
 abbrev pub ShowsStatements : List ℕ → List Item → ℕ → PassTwo → PassTwo → Type 0
 ShowsStatements line items number old new = (lines : List (List ℕ)) → AreStatements lines line items → ShowsOn lines line number old new
+
+-- where so many of these lines were shown, so many are shown now
+abbrev pub ShowsTo : List (List ℕ) → ℕ → ℕ → PassTwo → PassTwo → Type 0
+ShowsTo lines shown more old new = IsShown (take shown lines) old → IsShown (take more lines) new
 
 -- the lines that were gathered are shown, under the final values
 abbrev pub AreShown : Gather → List (List ℕ) → Printout → Type 0

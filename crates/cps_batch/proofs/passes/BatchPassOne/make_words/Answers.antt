@@ -15,8 +15,8 @@ pub returns : goal.returns
 returns c =
     let lines = c.args.lines.now in
     let traces = traces_of lines in
-    let so = c.requires.passed.gathered in
-    let outcomes = outcomes_under (gathered-value.it c.args.self.now.gather) traces in
+    let so = ap gathered-value.it c.in_ok-printout.ensures.gather ∙ c.requires.passed.gathered in
+    let outcomes = outcomes_under (gathered-value.it c.show.new.self.gather) traces in
     let is_open = c.is_open_at_end.ensures ∙ ap is_open_at_end so in
     let made = c.in_ok-words.ensures.words lines outcomes c.in_ok-printout.ensures.printout in
     record {

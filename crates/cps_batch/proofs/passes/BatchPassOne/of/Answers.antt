@@ -3,6 +3,9 @@ use Rattle.cps_input.proofs.PartLemmas.{part-at}
 use Rattle.cps_batch.proofs.PassLemmas.{passed-more, passed-all, number-taken}
 use Rattle.cps_batch.proofs.passes.BatchPassOne.of.Goals as goal
 
+pub take_line-requires : goal.take_line-requires
+take_line-requires c = (_, c.loop-before.invariant.passed)
+
 pub loop-before-preserved : goal.loop-before-preserved
 loop-before-preserved c =
     let lines = c.args.lines.now in
