@@ -7,6 +7,8 @@ use Rattle.cps_text.specs.declared.counted.Counted.{Counted}
 use Rattle.cps_text.specs.Line.{IsLine}
 use Rattle.cps_input.specs.declared.input_fault.InputFault.{InputFault}
 use Rattle.cps_input.specs.declared.input_fault.InputFault.TheVariants as faults
+use Rattle.cps_input.specs.declared.intake.Intake.{Intake}
+use Rattle.cps_input.specs.declared.intake.Intake.TheVariants as intakes
 use Rattle.cps_input.specs.declared.input.Input.{Input}
 use Rattle.cps_text.specs.declared.limits.TheConstants.{MOST_LINES}
 use Rattle.cps_input.specs.Sources.{IsSource, IsWrong, IsFirstWrong, IsReadWhole, Refuses, ReadsLines}
@@ -49,6 +51,10 @@ wrong-before lines line fault first = record {
   before = first.before;
   wrong = first.wrong;
 }
+
+pub wrong-kept : (intake : Intake) (fault : InputFault) (lines : List (List ℕ)) (line : List ℕ) → intake ≡ intakes.Faulty fault → IsIntake intake lines → IsIntake intake (lines ++ line ∷ [])
+wrong-kept intake fault lines line is come =
+    subst (λ i. IsIntake i (lines ++ line ∷ [])) (sym is) (wrong-before lines line fault (subst (λ i. IsIntake i lines) is come))
 
 -- ---- bytes
 

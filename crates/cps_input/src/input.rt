@@ -11,7 +11,6 @@ use super::line_end::newline_at;
 use super::line_text::LineText;
 use super::taker::Taker;
 use std::alloc::Global;
-use std::mem::replace;
 
 /// A source of which some bytes have come: the lines that a newline ended, and the line after them.
 #[derive(Drop)]
@@ -52,16 +51,14 @@ impl Input {
         requires none_begun { (begun : List ℕ) → IsBegun self.old.begun begun → begun ≡ [] }
         ensures { (taken : List ℕ) → HasCome self.old taken → HasCome self.new (taken ++ line.now ++ newline ∷ []) }
     {
-        let intake = replace(&mut self.intake, Intake::Refused(0));
-        self.intake = intake.with_line(kept_text(line));
+        self.intake.take_line(kept_text(line));
     }
 
     fn end_line(&mut self)
         requires { (taken : List ℕ) × HasCome self.old taken }
         ensures { (taken : List ℕ) → HasCome self.old taken → HasCome self.new (taken ++ newline ∷ []) }
     {
-        let intake = replace(&mut self.intake, Intake::Refused(0));
-        self.intake = intake.with_line(self.begun.text());
+        self.intake.take_line(self.begun.text());
         self.begun = BegunLine::new();
     }
 
@@ -75,7 +72,9 @@ impl Input {
         if begun.is_empty() {
             return intake.into_lines();
         }
-        intake.with_line(begun.text()).into_lines()
+        let mut intake = intake;
+        intake.take_line(begun.text());
+        intake.into_lines()
     }
 }
 

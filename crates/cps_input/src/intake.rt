@@ -1,5 +1,5 @@
 //! The lines of a source, as they come.
-ghost use Rattle.std.specs.Prelude.{◌≡◌, ℕ, List, [], ◌∷◌, ◌++◌, ◌+◌, ◌<◌, ◌≤◌, length, not, IfSome, MatchOption};
+ghost use Rattle.std.specs.Prelude.{◌≡◌, ℕ, List, [], ◌∷◌, ◌++◌, ◌+◌, ◌<◌, ◌≤◌, length, not, IfSome, MatchOption, unwrap_or};
 ghost use Rattle.std.specs.List.{position};
 ghost use Rattle.cps_text.specs.Line.{HasBadCharacter, IsLine, is_accepted_byte};
 ghost use Rattle.cps_input.specs.Sources.{IsFirstBad, IsSource, IsWrong};
@@ -31,15 +31,25 @@ impl Intake {
         Intake::Kept(LineText::new(alloc))
     }
 
-    /// These lines and one more, None where it has more bytes than are kept of a line. It is checked also where there was no memory for them.
-    pub fn with_line(self, text: Option<&[u8]>) -> Intake
-        requires { (lines : List (List ℕ)) × IsIntake self lines }
-        ensures { TakesLine self text.entry result }
+    /// Takes one line more, None where it has more bytes than are kept of a line. It is checked also where there was no memory for the lines.
+    pub fn take_line(&mut self, text: Option<&[u8]>)
+        requires { (lines : List (List ℕ)) × IsIntake self.old lines }
+        ensures { TakesLine self.old text.entry self.new }
+    {
+        if let Some(other) = self.keep_line(text) {
+            *self = other;
+        }
+    }
+
+    /// Takes one line more, where this stays: it is None then. Otherwise it is what comes in its place.
+    fn keep_line(&mut self, text: Option<&[u8]>) -> Option<Intake>
+        requires { (lines : List (List ℕ)) × IsIntake self.old lines }
+        ensures { TakesLine self.old text.entry (unwrap_or result self.new) }
     {
         match self {
             Intake::Kept(lines) => keep(lines, text),
-            Intake::Refused(count) => count_on(count, text),
-            Intake::Faulty(fault) => Intake::Faulty(fault),
+            Intake::Refused(count) => Some(count_on(*count, text)),
+            Intake::Faulty(_) => None,
         }
     }
 
@@ -55,32 +65,33 @@ impl Intake {
     }
 }
 
-/// These lines and one more, None where more bytes came than are kept of a line. A line that there is no room for takes no memory.
-fn keep(lines: LineText, text: Option<&[u8]>) -> Intake
-    requires { length lines ≤ MOST_LINES }
-    ensures { TakesLine (Intake.Kept lines) text.entry result }
+/// Keeps one line more, None where more bytes came than are kept of a line. Where it isn't kept, this is what comes in place of the lines. A line that
+/// there is no room for takes no memory.
+fn keep(lines: &mut LineText, text: Option<&[u8]>) -> Option<Intake>
+    requires { length lines.old ≤ MOST_LINES }
+    ensures { TakesLine (Intake.Kept lines.old) text.entry (unwrap_or result (Intake.Kept lines.new)) }
 {
     if lines.len() == MOST_LINES {
-        return count_on(MOST_LINES as u32, text);
+        return Some(count_on(MOST_LINES as u32, text));
     }
     let number = lines.len() as u32 + 1;
     let Some(text) = text else {
-        return Intake::Faulty(InputFault::LineTooLong(number));
+        return Some(Intake::Faulty(InputFault::LineTooLong(number)));
     };
     match fault_of(number, text) {
-        Some(fault) => Intake::Faulty(fault),
+        Some(fault) => Some(Intake::Faulty(fault)),
         None => push_line(lines, number, text),
     }
 }
 
-/// These lines and one more, or their number where there is no memory for it.
-fn push_line(lines: LineText, number: u32, line: &[u8]) -> Intake
-    ensures { number ≡ length lines + 1 → IsSource (lines ++ line.now ∷ []) → IsIntake result (lines ++ line.now ∷ []) }
+/// Keeps one line more. Where there is no memory for it, their number comes in place of the lines.
+fn push_line(lines: &mut LineText, number: u32, line: &[u8]) -> Option<Intake>
+    ensures { number ≡ length lines.old + 1 → IsSource (lines.old ++ line.now ∷ [])
+        → IsIntake (unwrap_or result (Intake.Kept lines.new)) (lines.old ++ line.now ∷ []) }
 {
-    let mut lines = lines;
     match lines.push(line) {
-        Ok(_) => Intake::Kept(lines),
-        Err(_) => Intake::Refused(number),
+        Ok(_) => None,
+        Err(_) => Some(Intake::Refused(number)),
     }
 }
 
