@@ -134,9 +134,10 @@ fn push_row(
 fn push_central(text: &mut Vec<u8>, address: u32, word: u64) -> Result<(), AllocError>
     ensures { OnOk result (text.new.items ≡ text.old.items ++ (octal 6 address ++ codes " " ++ octal 20 word ++ codes "\n")) }
 {
-    let mut row = *BLANK_ROW;
-    write_central(&mut row, address, word);
-    text.extend_from_slice(&row)
+    let before = text.len();
+    text.extend_from_slice(BLANK_ROW)?;
+    write_central(&mut text[before..], address, word);
+    Ok(())
 }
 
 /// Writes the digits of a word of the central processor over the blanks of a row.
