@@ -107,7 +107,7 @@ impl LineTelling<'_> {
         if self.errors_only {
             return Ok(Vec::new(self.alloc));
         }
-        let notes = notes_within(self.alloc, line.line, line.trace)?;
+        let notes = notes_within(self.alloc, &Card::of(line.line), line.trace)?;
         places.borne_out(self.alloc, line.number, &notes)
     }
 

@@ -76,16 +76,19 @@ impl Remark {
 
 /// The notes that a line may have that does this, by column. Those of the end of the program, of one without an end and of what nothing reads are told only
 /// where other lines bear them out.
-pub fn notes_within(alloc: Global, line: &[u8], trace: &Trace) -> Result<Vec<Note>, AllocError> {
+pub fn notes_within(
+    alloc: Global,
+    card: &Card<'_>,
+    trace: &Trace,
+) -> Result<Vec<Note>, AllocError> {
     let mut notes = Vec::new(alloc);
-    let card = Card::of(line);
-    push_some(&mut notes, find_call(line))?;
-    push_some(&mut notes, find_behind_end(&card, trace))?;
-    push_some(&mut notes, find_no_end(&card, trace))?;
-    push_some(&mut notes, find_unread(&card, trace))?;
-    push_some(&mut notes, find_far_operands(&card, trace)?)?;
-    push_some(&mut notes, find_parted_operands(&card, trace))?;
-    push_some(&mut notes, find_cut_operands(&card, trace))?;
+    push_some(&mut notes, find_call(card.text))?;
+    push_some(&mut notes, find_behind_end(card, trace))?;
+    push_some(&mut notes, find_no_end(card, trace))?;
+    push_some(&mut notes, find_unread(card, trace))?;
+    push_some(&mut notes, find_far_operands(card, trace)?)?;
+    push_some(&mut notes, find_parted_operands(card, trace))?;
+    push_some(&mut notes, find_cut_operands(card, trace))?;
     Ok(notes)
 }
 
@@ -142,7 +145,7 @@ pub fn stands_behind_end(trace: &Trace) -> bool {
 
 /// An IDENT that names the program.
 fn find_no_end(card: &Card<'_>, trace: &Trace) -> Option<Note> {
-    if !is_ident(card) || !names_program(trace) {
+    if !names_program(trace) || !is_ident(card) {
         return None;
     }
     Some(Note {

@@ -22,8 +22,8 @@ pub enum Idle {
 
 impl Idle {
     /// Of a line that did this.
-    pub fn of(line: &[u8], trace: &Trace) -> Result<Idle, AllocError> {
-        if let Fields::Comment = Card::of(line).fields {
+    pub fn of(card: &Card<'_>, trace: &Trace) -> Result<Idle, AllocError> {
+        if let Fields::Comment = card.fields {
             return Ok(Idle::Comment);
         }
         if stands_behind_end(trace) {

@@ -3,6 +3,7 @@
 use crate::document::Document;
 use crate::idle::Idle;
 use crate::mentions::line_of;
+use cps_cause::Card;
 use cps_check::{Note, ends_program, notes_within, start_of};
 use cps_final::LineSymbols;
 use cps_list::View;
@@ -51,8 +52,9 @@ impl NotedLine {
         let Some(trace) = session.traces().get(number as usize) else {
             return Ok(NotedLine::none(alloc));
         };
-        let idle = Idle::of(line, trace)?;
-        let notes = notes_of(alloc, line, trace)?;
+        let card = Card::of(line);
+        let idle = Idle::of(&card, trace)?;
+        let notes = notes_of(alloc, &card, trace)?;
         symbols.replace(trace.puts(), trace.reads(), trace.items())?;
         let mut reads = symbols.read().to_vec(alloc)?;
         let defines = defined_by(alloc, trace.puts())?;
@@ -95,11 +97,11 @@ impl NotedLine {
 }
 
 /// The notes that a line may have that does this; none if no source may have it.
-fn notes_of(alloc: Global, line: &[u8], trace: &Trace) -> Result<Vec<Note>, AllocError> {
-    if Line::check(line).is_err() {
+fn notes_of(alloc: Global, card: &Card<'_>, trace: &Trace) -> Result<Vec<Note>, AllocError> {
+    if Line::check(card.text).is_err() {
         return Ok(Vec::new(alloc));
     }
-    notes_within(alloc, line, trace)
+    notes_within(alloc, card, trace)
 }
 
 /// The symbols and macros among the keys that a line puts.
