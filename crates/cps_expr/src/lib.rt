@@ -77,4 +77,4 @@ pub use sequence::Sequence;
 pub use signs::{leading_sign, sign_at};
 pub use statement::{Stmt, StmtFault};
 pub use statement_table::Stated;
-pub use value::{Value, is_same_name};
+pub use value::{Value, is_same_name, place_among};

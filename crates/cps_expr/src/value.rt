@@ -1,5 +1,5 @@
 //! Values, and what operators make of them.
-ghost use Rattle.std.specs.Prelude.{◌≡◌, ℤ, SomeIff, IfSome, FitsSigned};
+ghost use Rattle.std.specs.Prelude.{◌≡◌, ◌<◌, ℤ, SomeIff, IfSome, FitsSigned, length, position};
 ghost use Rattle.std.specs.Int.{w64};
 ghost use Rattle.cps_text.specs.declared.name.Name.{Name};
 ghost use Rattle.cps_expr.specs.Value.{IsInRange, greatest, is_in_range, limited, plain, same_name, block_of_sum, block_of_difference, block_of_product, in_block, quotient, multiplied, sum_of, difference_of, added};
@@ -171,4 +171,13 @@ pub fn is_same_name(left: Name, right: Name) -> bool
     ensures { result ≡ same_name left right }
 {
     left == right
+}
+
+/// How many names stand before a name; None where it isn't among them.
+#[inline(always)]
+pub fn place_among(names: &[Name], name: Name) -> Option<usize>
+    ensures place { result ≡ position (same_name name) names.now }
+    ensures within { IfSome result (λ place. place < length names.now) }
+{
+    names.iter().position(|other| is_same_name(name, *other))
 }

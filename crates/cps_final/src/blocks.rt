@@ -12,7 +12,7 @@ ghost use Rattle.cps_final.specs.Code.Storage.{AreJoined, AreSameNamed};
 ghost use Rattle.indexmap.specs.IndexMap.{spare, keys};
 
 use cps_code::Place;
-use cps_expr::{Machine, is_same_name};
+use cps_expr::{Machine, place_among};
 use cps_state::{Hashing, Key, Put, place_of};
 use cps_text::Name;
 use indexmap::IndexMap;
@@ -190,15 +190,6 @@ impl Blocks {
         }
         words
     }
-}
-
-/// How many names stand before a name.
-#[inline(always)]
-fn place_among(names: &[Name], name: Name) -> Option<usize>
-    ensures place { result ≡ position (same_name name) names.now }
-    ensures within { IfSome result (λ place. place < length names.now) }
-{
-    names.iter().position(|other| is_same_name(name, *other))
 }
 
 /// How many puts are of counters of named blocks.

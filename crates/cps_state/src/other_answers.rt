@@ -1,5 +1,5 @@
 //! What stands at the keys at which nothing may stand too.
-ghost use Rattle.std.specs.Prelude.{◌≡◌, ◌<◌, ◌≤◌, ◌+◌, true, [], None, OnOk, OnErr, IfSome, Some as Just, length, position, if◌then◌else◌};
+ghost use Rattle.std.specs.Prelude.{◌≡◌, ◌<◌, ◌≤◌, ◌+◌, true, None, OnOk, IfSome, Some as Just, length, position, if◌then◌else◌};
 ghost use Rattle.std.specs.Option.{option_copied};
 ghost use Rattle.std.specs.HashMap.{get, spare, keys};
 ghost use Rattle.cps_expr.specs.Value.{same_name};
@@ -9,7 +9,7 @@ ghost use Rattle.cps_state.specs.declared.key.Key.{Key};
 
 use crate::hashing::Hashing;
 use crate::key::{Answer, Key};
-use cps_expr::is_same_name;
+use cps_expr::place_among;
 use cps_text::Name;
 use indexmap::IndexMap;
 use std::alloc::{AllocError, Global};
@@ -147,15 +147,6 @@ impl Counters {
             }
         }
     }
-}
-
-/// How many names stand before a name.
-#[inline(always)]
-fn place_among(names: &[Name], name: Name) -> Option<usize>
-    ensures place { result ≡ position (same_name name) names.now }
-    ensures within { IfSome result (λ place. place < length names.now) }
-{
-    names.iter().position(|other| is_same_name(name, *other))
 }
 
 fn exchange_label(
