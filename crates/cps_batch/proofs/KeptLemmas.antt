@@ -2,17 +2,11 @@
 use Rattle.std.proofs.Common.{◌≡◌, ℕ, ◌+◌, ◌<◌, ◌≤◌, sym, ap, subst, ◌∙◌, List, [], ◌∷◌, ◌++◌, length, get_or, drop, reverse, arith}
 use Rattle.std.proofs.Math.Seq.{drop-append_seam}
 use Rattle.std.proofs.lemmas.List.{append_assoc, append-nil, drop-drop, get_or_append_left, get_or-drop, length-append, length-drop, reverse-append}
-use Rattle.std.proofs.lemmas.Grind.{flat_map-append}
 use Rattle.cps_state.specs.declared.item.Item.{Item}
 use Rattle.cps_input.specs.Code.Parts.{RisesTo, parts_at}
 use Rattle.cps_input.proofs.PartLemmas.{parts-more, rises-more}
 use Rattle.cps_batch.specs.Code.KeptLines.{AreKept, statements_in}
 use Rattle.cps_batch.specs.declared.kept_lines.KeptStatements.{KeptStatements}
-
--- one group more
-pub group-more : (old new : List (List (List Item))) (group : List (List Item)) → new ≡ old ++ group ∷ [] → statements_in new ≡ statements_in old ++ group
-group-more old new group is =
-    ap statements_in is ∙ flat_map-append (λ (g : List (List Item)). g) old (group ∷ []) ∙ ap (λ (l : List (List Item)). statements_in old ++ l) (append-nil group)
 
 -- the last group of a list is the first of that in the other order
 pub first-group : (groups left : List (List (List Item))) (group : List (List Item)) → groups ≡ left ++ group ∷ []

@@ -1,7 +1,6 @@
 -- A text in which `?` stands in the place of each control character.
-use Rattle.std.proofs.Common.{◌≡◌, ℕ, ◌+◌, ◌<◌, true, false, not, Bool, List, [], ◌∷◌, ◌++◌, length, get_or, take, refl, sym, ap, ◌∙◌, append_assoc}
+use Rattle.std.proofs.Common.{◌≡◌, ℕ, ◌+◌, true, false, not, Bool, List, [], ◌∷◌, ◌++◌, refl, ap, ◌∙◌}
 use Rattle.std.proofs.lemmas.Bool.{cond-true, cond-false, and_from}
-use Rattle.std.proofs.lemmas.List.{map_more}
 use Rattle.std.proofs.lemmas.List.Folds.{list_all-append}
 use Rattle.cps_input.specs.Shown.{has_no_control, is_control}
 use Rattle.cps_cause.specs.Sentence.{cleaned, cleaned_byte}
@@ -17,10 +16,3 @@ safe (byte ∷ text) = and_from _ _ (safe-byte byte (is_control byte) refl) (saf
 -- none comes in behind a text without any
 pub safe-behind : (text more : List ℕ) → has_no_control text ≡ true → has_no_control (text ++ cleaned more) ≡ true
 safe-behind text more none = list_all-append (λ byte. not (is_control byte)) text (cleaned more) ∙ and_from _ _ none (safe more)
-
--- one byte more
-pub cleaned-more : (text more : List ℕ) (at d : ℕ) → at < length more
-    → (text ++ cleaned (take at more)) ++ cleaned_byte (get_or more at d) ∷ [] ≡ text ++ cleaned (take (at + 1) more)
-cleaned-more text more at d within =
-    append_assoc text (cleaned (take at more)) (cleaned_byte (get_or more at d) ∷ [])
-    ∙ ap (λ back. text ++ back) (sym (map_more cleaned_byte more at d within))

@@ -27,7 +27,7 @@ use Rattle.cps_chunk.specs.Code.Along.{GoesAlong, MayGo, Leaves, front_at, front
 use Rattle.cps_chunk.specs.Code.Compared.{with_puts}
 use Rattle.cps_chunk.specs.Code.Replay.{PutsAlso, now_by, now_with}
 use Rattle.cps_chunk.specs.Replayed.{replayed}
-use Rattle.cps_chunk.specs.Code.Walk.{GoesOver, IsBaseline, IsStillWalk, IsWalk, cursor, state_at, stood_at, stretch}
+use Rattle.cps_chunk.specs.Code.Walk.{IsBaseline, IsStillWalk, IsWalk, cursor, state_at, stood_at, stretch}
 use Rattle.cps_chunk.proofs.ComparedLemmas.{with_puts-append}
 use Rattle.cps_chunk.proofs.GoLemmas.{stretch-cons}
 use Rattle.cps_chunk.proofs.OverLemmas.{over-count, over-state, stretch-none, stretch-replayed, stretch-within}
@@ -134,11 +134,6 @@ along-none old position a b same may = subst (λ (c : ℕ). GoesAlong old old po
   state = ap (state_after (front_at old position a)) (sym (stretch-none a old.base.lines.now));
   leaves = none-left old position a may;
 }
-
--- ---- lines where they stood
-
-pub over-along : (old new : Walk) (a b : ℕ) → GoesOver old new a b → GoesAlong old new Same (span a b)
-over-along old new a b over = record { news = over.news; state = over.state; leaves = over.present }
 
 -- ---- lines that are carried
 

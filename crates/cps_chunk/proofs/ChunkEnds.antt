@@ -47,11 +47,6 @@ total-drop zero ns = omega arith
 total-drop (suc i) [] = omega arith
 total-drop (suc i) (n ∷ ns) = omega (arith, total-drop i ns)
 
-pub total-take : (i : ℕ) (ns : List ℕ) → total (take i ns) + total (drop i ns) ≡ total ns
-total-take zero ns = omega arith
-total-take (suc i) [] = omega arith
-total-take (suc i) (n ∷ ns) = omega (arith, total-take i ns)
-
 -- ends with as many lines are the same
 pub same-ends : (i j : ℕ) (ns : List ℕ) → AreSome ns → total (drop i ns) ≡ total (drop j ns) → drop i ns ≡ drop j ns
 same-ends zero zero ns some e = refl

@@ -98,14 +98,6 @@ run-step ns d a b i n start end old now new lt first s e before made =
 pub run-none : (ns : List ℕ) (a b i : ℕ) (old : List ℕ) → length ns ≤ i → old ≡ rejoined (part_of a b (drop i ns)) old
 run-none ns a b i old past = ap (λ xs. rejoined (part_of a b xs) old) (sym (drop_all i ns past))
 
--- all chunks
-pub run-all : (ns : List ℕ) (a b i start : ℕ) (old now : List ℕ) → i ≡ 0 → start ≡ sum (take i ns) → now ≡ rejoined (part_of (a - start) (b - start) (drop i ns)) old → now ≡ rejoined (part_of a b ns) old
-run-all ns a b i start old now none s is =
-    let zero_sum : start ≡ 0 = s ∙ ap (λ k. sum (take k ns)) none in
-    let aa : a - start ≡ a = omega (arith, zero_sum) in
-    let bb : b - start ≡ b = omega (arith, zero_sum) in
-    is ∙ (λ k. rejoined (part_of (aa k) (bb k) (drop (none k) ns)) old)
-
 -- ---- four runs
 
 front-all : (ns : List ℕ) → AreSome ns → (k : ℕ) → k ≡ sum ns → front_of k ns ≡ ns

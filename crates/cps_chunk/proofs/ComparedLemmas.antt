@@ -162,9 +162,6 @@ taken-at None (Some a) (Some b) there known same = refl
 taken-at None None None there known same = refl
 taken-at None None (Some b) there known same = ap Some (same refl)
 
-pub taken-none : (now : Changed) (f : State) → now ≡ with_all_kept now [] f
-taken-none now f = λ i. λ k. sym (none-there (now k) (f k)) i
-
 module _ (before : State) (gone : List Trace) (i : ℕ) (t : Trace) (lt : i < length gone) (is : t ≡ get_or gone i t)
     (held : AreHeld (overwritten before (puts_of (take i gone))) (drop i gone)) where
   abbrev olds : List Put
@@ -202,9 +199,6 @@ module _ (before : State) (gone : List Trace) (i : ℕ) (t : Trace) (lt : i < le
 -- one key is compared: the same stands there, or something else
 pub compared-same : (now next : Changed) (key : Key) (a b : Option Answer) → option_eq same_answer a b ≡ true → next ≡ without now key → next ≡ with_difference now key a b
 compared-same now next key a b same made = made ∙ λ i. λ k. if same_key key k then (if sym same i then None else Some a) else now k
-
-pub compared-other : (now next : Changed) (key : Key) (a b : Option Answer) → option_eq same_answer a b ≡ false → next ≡ with_change now key a → next ≡ with_difference now key a b
-compared-other now next key a b other made = made ∙ λ i. λ k. if same_key key k then (if sym other i then None else Some a) else now k
 
 -- the keys so far are compared
 pub record Compared (ks : List Key) (now present : Changed) (was : State) (next : Changed) : Type 0 where

@@ -77,9 +77,6 @@ looks-then u v w a b first second = record { least = least-more u.looked v.looke
 pub looks-wider : (u v : Counts) (a b : ℕ) → a ≤ b → ComparesUpTo u v a → ComparesUpTo u v b
 looks-wider u v a b le looks = record { least = looks.least; most = most-wider u.looked v.looked a b looks.most le }
 
-pub looks-none : (u : Counts) (b : ℕ) → ComparesUpTo u u b
-looks-none u b = record { least = omega arith; most = omega arith }
-
 -- ---- in a loop
 
 -- one step more where it ends well, and as many at most where it doesn't

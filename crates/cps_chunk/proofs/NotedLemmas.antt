@@ -1,11 +1,10 @@
 -- Lines that were there before, over a state with changes: whether they do the same, and what is changed behind them.
 use Rattle.std.proofs.Common.{◌≡◌, refl, sym, ap, subst, ◌∙◌, ℕ, Bool, true, false, ◌||◌, ◌&&◌, List, [], ◌∷◌, ◌++◌, Option, None, Some}
-use Rattle.std.specs.Prelude.{is_some, not, unwrap_or, option_map, if◌then◌else◌}
+use Rattle.std.specs.Prelude.{is_some, not, unwrap_or, if◌then◌else◌}
 use Rattle.std.specs.Option.{option_eq, option_or}
 use Rattle.cps_state.specs.declared.key.Key.{Key}
 use Rattle.cps_state.specs.declared.key.Answer.{Answer}
 use Rattle.cps_state.specs.declared.key.Asked.{Asked}
-use Rattle.cps_state.specs.declared.key.Put.{Put}
 use Rattle.cps_state.specs.Course.{Trace, Holds, last_put, last_ask}
 use Rattle.cps_state.specs.Keys.{State, same_key, overwritten}
 use Rattle.cps_state.proofs.KnownLemmas.{last_ask-push, same_key_is, same_key-true}
@@ -18,7 +17,7 @@ use Rattle.cps_pass.specs.Expansion.{trace_of}
 use Rattle.cps_edit.specs.Passes.{after}
 use Rattle.cps_edit.specs.Disturbed.{is_disturbed}
 use Rattle.cps_edit.proofs.AskedLemmas.{asked-here, meant-here}
-use Rattle.cps_chunk.specs.Noted.{stands_at, stands, last_puts, difference, noted, NotedLaw, asked_or}
+use Rattle.cps_chunk.specs.Noted.{stands_at, stands, difference, noted, NotedLaw, asked_or}
 
 -- ---- what is changed behind lines
 
@@ -41,14 +40,6 @@ noted-law now before olds news = λ i. λ k. at k (last_put olds k) (last_put ne
     at k (Some a) new was is = over-difference (overwritten (changed now before) news k) (overwritten before olds k)
     at k None (Some b) was is = over-difference (overwritten (changed now before) news k) (overwritten before olds k)
     at k None None was is = ap (unwrap_or (now k)) was ∙ sym is
-
--- what lines put last stands where they put it
-pub changed-last_puts : (puts : List Put) (f : State) → changed (last_puts puts) f ≡ overwritten f puts
-changed-last_puts puts f = λ i. λ k. (at k (last_put puts k) ∙ sym (overwritten-last f puts k)) i
-  where
-    at : (k : Key) (last : Option Answer) → unwrap_or (option_map Some last) (f k) ≡ option_or last (f k)
-    at k None = refl
-    at k (Some a) = refl
 
 -- ---- what a line asked
 

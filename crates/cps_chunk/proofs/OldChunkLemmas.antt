@@ -13,14 +13,6 @@ use Rattle.cps_chunk.proofs.PieceLemmas.{length-numbers, numbers-more, part-new}
 
 -- ---- a list's front and the rest
 
-take-front : (xs ys : List ℕ) (n : ℕ) → n ≡ length xs → take n (xs ++ ys) ≡ xs
-take-front [] ys n e = ap (λ k. take k ys) e
-take-front (x ∷ xs) ys n e = ap (λ k. take k (x ∷ (xs ++ ys))) e ∙ ap (λ zs. x ∷ zs) (take-front xs ys (length xs) refl)
-
-drop-front : (xs ys : List ℕ) (n : ℕ) → n ≡ length xs → drop n (xs ++ ys) ≡ ys
-drop-front [] ys n e = ap (λ k. drop k ys) e
-drop-front (x ∷ xs) ys n e = ap (λ k. drop k (x ∷ (xs ++ ys))) e ∙ drop-front xs ys (length xs) refl
-
 take-over : (xs ys : List ℕ) (n k : ℕ) → n ≡ length xs → take (n + k) (xs ++ ys) ≡ xs ++ take k ys
 take-over [] ys n k e =
     let same : n + k ≡ k = omega (arith, e) in
@@ -49,14 +41,6 @@ some-take (suc k) (x ∷ xs) le within = omega arith
 
 -- ---- a piece before others
 
-piece-before : (ns ms more : List ℕ) (p : RecutChunk) (ps : List RecutChunk) → 1 ≤ p.lines → MayStandBefore ns p.lines p.old ms more → ArePieces ns ps more → ArePieces ns (p ∷ ps) (ms ++ more)
-piece-before ns ms more p ps one may are = (
-  one,
-  omega (arith, may.count, length-append ms more),
-  subst (AreNamed ns p.old) (sym (take-front ms more p.lines (sym may.count))) may.named,
-  subst (ArePieces ns ps) (sym (drop-front ms more p.lines (sym may.count))) are,
-)
-
 piece-with : (ns ms more : List ℕ) (lines : ℕ) (old : Option ℕ) (q r : RecutChunk) (ps : List RecutChunk) → r.lines ≡ lines + q.lines → r.old ≡ None → MayStandBefore ns lines old ms more
     → ArePieces ns (q ∷ ps) more → ArePieces ns (r ∷ ps) (ms ++ more)
 piece-with ns ms more lines old q r ps both none may are =
@@ -71,12 +55,6 @@ piece-with ns ms more lines old q r ps both none may are =
 
 reverse-push : (ps : List RecutChunk) (p : RecutChunk) → reverse (ps ++ p ∷ []) ≡ p ∷ reverse ps
 reverse-push ps p = reverse-append ps (p ∷ [])
-
--- none is there
-pub set-alone : (ns ms more : List ℕ) (olds news : List RecutChunk) (p : RecutChunk) → olds ≡ [] → news ≡ olds ++ p ∷ [] → 1 ≤ p.lines
-    → ArePieces ns (reverse olds) more → MayStandBefore ns p.lines p.old ms more → ArePieces ns (reverse news) (ms ++ more)
-set-alone ns ms more olds news p none made one are may =
-    subst (λ ps. ArePieces ns ps (ms ++ more)) (sym (ap reverse made ∙ reverse-push olds p)) (piece-before ns ms more p (reverse olds) one may are)
 
 -- it stays apart, or both are one
 pub set-one : (ns ms more : List ℕ) (olds left news : List RecutChunk) (q r : RecutChunk) (lines : ℕ) (old : Option ℕ) → olds ≡ left ++ q ∷ [] → news ≡ left ++ r ∷ [] → r.lines ≡ lines + q.lines → r.old ≡ None

@@ -32,30 +32,16 @@ first-grown : (n : ℕ) (ns : List ℕ) → inserted_at 0 (n ∷ ns) ≡ grown n
 first-grown n [] = refl
 first-grown n (m ∷ ms) = ap (λ b. if b then n ∷ inserted_at (0 - n) (m ∷ ms) else grown n (m ∷ ms)) (le-ltb n 0 (omega arith))
 
-pub none-grown : (old new : List ℕ) → old ≡ [] → new ≡ 1 ∷ [] → new ≡ inserted_at 0 old
-none-grown old new empty one = one ∙ ap (inserted_at 0) (sym empty)
-
 pub first-more : (n : ℕ) (ns old new : List ℕ) → old ≡ n ∷ ns → new ≡ (n + 1) ∷ ns → n < full → new ≡ inserted_at 0 old
 first-more n ns old new is one short =
     one ∙ sym (ap (λ b. if b then (n + 1) ∷ ns else full ∷ joined 1 ns) (lt-ltb n full short)) ∙ sym (first-grown n ns) ∙ ap (inserted_at 0) (sym is)
 
-pub first-full : (n : ℕ) (ns old new : List ℕ) → old ≡ n ∷ ns → new ≡ full ∷ joined 1 ns → full ≤ n → new ≡ inserted_at 0 old
-first-full n ns old new is one whole =
-    one ∙ sym (ap (λ b. if b then (n + 1) ∷ ns else full ∷ joined 1 ns) (le-ltb n full whole)) ∙ sym (first-grown n ns) ∙ ap (inserted_at 0) (sym is)
-
 -- ---- the last line of a full chunk
-
-pub none-next : (old new : List ℕ) → old ≡ [] → new ≡ 1 ∷ old → new ≡ joined 1 old
-none-next old new empty one = one ∙ ap (λ xs. 1 ∷ xs) empty ∙ ap (joined 1) (sym empty)
 
 pub next-more : (n : ℕ) (ns old new : List ℕ) → old ≡ n ∷ ns → new ≡ (n + 1) ∷ ns → n < full → new ≡ joined 1 old
 next-more n ns old new is one short =
     let same : n + 1 ≡ 1 + n = omega arith in
     one ∙ ap (λ k. k ∷ ns) same ∙ sym (ap (λ b. if b then 1 ∷ n ∷ ns else (1 + n) ∷ ns) (le-ltb full (1 + n) (omega (arith, short)))) ∙ ap (joined 1) (sym is)
-
-pub next-full : (n : ℕ) (ns old new : List ℕ) → old ≡ n ∷ ns → new ≡ 1 ∷ old → full ≤ n → new ≡ joined 1 old
-next-full n ns old new is one whole =
-    one ∙ ap (λ xs. 1 ∷ xs) is ∙ sym (ap (λ b. if b then 1 ∷ n ∷ ns else (1 + n) ∷ ns) (lt-ltb full (1 + n) (omega (arith, whole)))) ∙ ap (joined 1) (sym is)
 
 -- ---- lines behind the first chunk
 
@@ -115,15 +101,6 @@ stand-one : (at : ℕ) (ns : List ℕ) → AreChunks ns → at ≤ 1 → StandIn
 stand-one at [] d le = tt
 stand-one at (n ∷ []) d le = tt
 stand-one at (n ∷ m ∷ ms) d le = omega (arith, d.0, le)
-
-pub stand-few : (at : ℕ) (ns : List ℕ) → length ns < 2 → StandInFirst at ns
-stand-few at [] few = tt
-stand-few at (n ∷ []) few = tt
-stand-few at (n ∷ m ∷ ms) few = absurd (omega (arith, few))
-
-pub stand-first : (at n : ℕ) (ns : List ℕ) → at ≤ n → StandInFirst at (n ∷ ns)
-stand-first at n [] le = tt
-stand-first at n (m ∷ ms) le = le
 
 second-one : (at n m : ℕ) (ms left : List ℕ) (first : ℕ) → AreChunks (n ∷ m ∷ ms) → at ≤ n → (b : Bool) → nat_lt n full ≡ b
     → (if b then (n + 1) ∷ m ∷ ms else full ∷ joined 1 (m ∷ ms)) ≡ first ∷ left → first < at + 1 → AreChunks left → StandInFirst (at + 1 - first) left

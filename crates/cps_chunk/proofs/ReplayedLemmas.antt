@@ -21,7 +21,7 @@ use Rattle.cps_chunk.specs.declared.sparse.SparseItem.{SparseItem}
 use Rattle.cps_edit.specs.Passes.{after, state_after, traces_from, traces_of, outcomes_by}
 use Rattle.cps_edit.specs.Splice.{Splice, spliced}
 use Rattle.cps_edit.specs.Disturbed.{Placed, kept, all_kept, fresh, placed, is_disturbed, disturbed_from, is_redone, redone_places, finals_in, ones_of, twos_of}
-use Rattle.cps_edit.specs.Renewed.{WasMeant, AllWereMeant, flags_from, redone_from}
+use Rattle.cps_edit.specs.Renewed.{WasMeant, AllWereMeant, redone_from}
 use Rattle.cps_chunk.specs.Sparse.{item_at, one_if, renewed, AreWithin, AgreeFor}
 use Rattle.cps_chunk.specs.Replayed.{replayed, redone, flags_at, state_front, state_behind, replayed_behind, redone_front, redone_behind}
 use Rattle.cps_edit.proofs.AskedLemmas.{meant-here}
@@ -88,59 +88,9 @@ replayed-append state i (l ∷ ls) ms (o ∷ os) ps len =
     ap (λ us. one ++ us) (replayed-append (after state l) (suc i) ls ms os ps (omega (arith, len)) ∙ ap (λ k. rest ++ replayed end k ms ps) at)
     ∙ sym (append_assoc one rest (replayed end (i + suc (length ls)) ms ps))
 
--- a stretch that is not disturbed
-pub traces-still : (state : State) (lines : List (List ℕ)) (olds : List Trace) → AllWereMeant lines olds → disturbed_from state (kept lines olds) ≡ 0 → traces_from state lines ≡ olds
-traces-still state lines olds meant none =
-    sym (renewed-replayed state 0 lines olds meant) ∙ ap (λ news. renewed 0 news olds) (replayed-none state 0 lines olds none) ∙ renewed-none 0 olds
-
-pub replayed-skip : (state : State) (i : ℕ) (ls ms : List (List ℕ)) (os ps : List Trace) → length ls ≡ length os → disturbed_from state (kept ls os) ≡ 0
-    → replayed state i (ls ++ ms) (os ++ ps) ≡ replayed (state_after state ls) (i + length ls) ms ps
-replayed-skip state i ls ms os ps len none =
-    replayed-append state i ls ms os ps len ∙ ap (λ us. us ++ replayed (state_after state ls) (i + length ls) ms ps) (replayed-none state i ls os none)
-
--- one line more
-pub replayed-next : (lines : List (List ℕ)) (olds : List Trace) (i j k : ℕ) (line : List ℕ) (old : Trace) (state next : State) (made e : List (SparseItem Trace))
-    → i < length lines → i < length olds → line ≡ get_or lines i line → old ≡ get_or olds i old → next ≡ after state line → k ≡ suc j
-    → made ++ replayed state j (drop i lines) (drop i olds) ≡ e
-    → (made ++ one_if (is_disturbed (Some old) state) j (trace_of line state)) ++ replayed next k (drop (i + 1) lines) (drop (i + 1) olds) ≡ e
-replayed-next lines olds i j k line old state next made e a b p q there at before =
-    let one = one_if (is_disturbed (Some old) state) j (trace_of line state) in
-    append_assoc made one (replayed next k (drop (i + 1) lines) (drop (i + 1) olds))
-    ∙ ap (λ (s : State). made ++ (one ++ replayed s k (drop (i + 1) lines) (drop (i + 1) olds))) there
-    ∙ ap (λ n. made ++ (one ++ replayed (after state line) n (drop (i + 1) lines) (drop (i + 1) olds))) at
-    ∙ sym (ap (λ xs. made ++ replayed state j (line ∷ drop (i + 1) lines) xs) (drop_at olds i old b q))
-    ∙ sym (ap (λ xs. made ++ replayed state j xs (drop i olds)) (drop_at lines i line a p))
-    ∙ before
-
-pub replayed-done : (lines : List (List ℕ)) (olds : List Trace) (i j : ℕ) (state : State) (made e : List (SparseItem Trace)) → length lines ≤ i
-    → made ++ replayed state j (drop i lines) (drop i olds) ≡ e → made ≡ e
-replayed-done lines olds i j state made e past before =
-    sym (append-nil made) ∙ sym (ap (λ xs. made ++ replayed state j xs (drop i olds)) (drop_all i lines past)) ∙ before
-
--- which of them are there
-flags_at-agree : (i n : ℕ) (ns ms : List (SparseItem Trace)) → AgreeFor i n ns ms → flags_at i n ns ≡ flags_at i n ms
-flags_at-agree i zero ns ms agree = refl
-flags_at-agree i (suc n) ns ms agree =
-    let here : item_at ns i ≡ item_at ms i = agree i (omega arith) (omega arith) in
-    λ j. is_some (here j) ∷ flags_at-agree (suc i) n ns ms (AgreeFor-later i n ns ms agree) j
-
 is_some-if : (test : Bool) (x : Trace) → is_some (if test then Some x else None) ≡ test
 is_some-if true x = refl
 is_some-if false x = refl
-
-pub flags-replayed : (state : State) (i : ℕ) (lines : List (List ℕ)) (olds : List Trace) → length lines ≡ length olds
-    → flags_at i (length olds) (replayed state i lines olds) ≡ flags_from state lines olds
-flags-replayed state i [] [] len = refl
-flags-replayed state i [] (old ∷ olds) len = absurd (omega (arith, len))
-flags-replayed state i (line ∷ lines) [] len = absurd (omega (arith, len))
-flags-replayed state i (line ∷ lines) (old ∷ olds) len =
-    let disturbed = is_disturbed (Some old) state in
-    let one = one_if disturbed i (trace_of line state) in
-    let rest = replayed (after state line) (suc i) lines olds in
-    let here = ap is_some (item_at-one disturbed i (suc i + length lines) (trace_of line state) rest (replayed-within (after state line) (suc i) lines olds))
-    ∙ is_some-if disturbed (trace_of line state) in
-    let later = flags_at-agree (suc i) (length olds) (one ++ rest) rest (λ k low high. item_at-past disturbed i k (trace_of line state) rest low) in
-    λ j. here j ∷ (later ∙ flags-replayed (after state line) (suc i) lines olds (omega (arith, len))) j
 
 -- ---- pass two
 

@@ -51,10 +51,6 @@ next-part column bytes len is within some =
     subst (Runs column [] bytes) (sym is) (runs_all column [] bytes)
     ∙ ap (λ (parts : List Part). parts ++ parts_from (column + len) [] (drop len bytes)) (ended-some column len (take len bytes) taken some)
 
--- a blank, and what is left behind it
-pub past-blank : (column byte : ℕ) (row : List ℕ) → is_blank byte ≡ true → parts_from column [] (byte ∷ row) ≡ parts_from (column_after column byte) [] row
-past-blank column byte row is = ap (λ b. cond b ([] ++ parts_from (column_after column byte) [] row) (parts_from (column + 1) ([] ++ byte ∷ []) row)) is
-
 -- what begins with no blank has a part there
 pub some-part : (bytes : List ℕ) → 0 < length bytes → is_blank (get_or bytes 0 0) ≡ false → 0 < position_or_len is_blank bytes
 some-part [] some none = absurd (omega arith)

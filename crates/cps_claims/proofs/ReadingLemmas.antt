@@ -13,28 +13,18 @@ use Rattle.cps_claims.specs.declared.reading.OctalReader.{OctalReader}
 use Rattle.cps_claims.specs.Words.{size_of}
 use Rattle.cps_claims.specs.Columns.{columns_read}
 use Rattle.cps_claims.specs.Parts.{parts_of}
-use Rattle.cps_claims.specs.Rows.{Row, read, blank, other, unread, row_among, first_address, digits_behind, rows_from}
+use Rattle.cps_claims.specs.Rows.{Row, read, blank, other, unread, row_among, first_address, rows_from}
 use Rattle.cps_claims.specs.Claims.{Claimed, digits_from, claims_from}
 use Rattle.cps_claims.specs.Reading.{is_read, is_blank_row, is_other, is_unread, unread_from, first_other_from, IsReading}
 use Rattle.cps_claims.specs.Code.Held.{Holds}
 use Rattle.cps_claims.specs.Code.Slots.{WordState, with_claim, after}
-use Rattle.cps_claims.specs.Code.States.{ReadingState, KindsState, at_first, no_kinds, state_of, kinds_of, with_kind, with_kinds, with_row, with_rows, found_by, Reads}
+use Rattle.cps_claims.specs.Code.States.{ReadingState, KindsState, at_first, no_kinds, state_of, kinds_of, with_kind, with_kinds, with_row, with_rows, found_by}
 
 -- what a reader finds in a row is what the row is
 found-same : (layout : OctalLayout) (old : OctalReader) (row : List ℕ) (rows : List (List ℕ)) → old.layout ≡ layout → found_by old row rows
     ≡ row_among layout old.stand old.digits.items (parts_of (columns_read layout.columns row)) (first_address layout rows)
 found-same layout old row rows same =
     ap (λ (l : OctalLayout). row_among l old.stand old.digits.items (parts_of (columns_read l.columns row)) (first_address l rows)) same
-
--- one row, and then those behind it
-pub reads-more : (layout : OctalLayout) (old new : OctalReader) (row : List ℕ) (rows : List (List ℕ)) → old.layout ≡ layout → Reads old row rows new
-    → with_rows layout.form (new.number + 1) (state_of new.reading) (rows_from layout new.stand new.digits.items rows)
-    ≡ with_rows layout.form (old.number + 1) (state_of old.reading) (rows_from layout old.stand old.digits.items (row ∷ rows))
-reads-more layout old new row rows same reads =
-    (λ i. with_rows layout.form (reads.number i + 1) (reads.state i) (rows_from layout (reads.stand i) (reads.digits i) rows))
-    ∙ (λ i. with_rows layout.form (old.number + 1 + 1)
-    (with_row (same i).form (old.number + 1) (state_of old.reading) (found-same layout old row rows same i).0)
-    (rows_from layout (found-same layout old row rows same i).1 (digits_behind old.digits.items (found-same layout old row rows same i).0) rows))
 
 -- behind the last row
 pub at-end : (layout : OctalLayout) (reader : OctalReader) (rows : List (List ℕ)) → rows ≡ []

@@ -1,11 +1,9 @@
 -- The words that pieces make, one piece after another.
-use Rattle.std.proofs.Common.{◌≡◌, ℕ, ◌-◌, ◌^◌, ◌<◌, Bool, true, false, cond, ◌||◌, List, [], ◌∷◌, ◌++◌, reverse, Option, None, Some, is_some, unwrap_or, IfSome, refl, sym, ap, ◌∙◌}
-use Rattle.std.specs.List.{list_any, find}
+use Rattle.std.proofs.Common.{◌≡◌, ℕ, ◌-◌, ◌^◌, ◌<◌, Bool, true, false, cond, ◌||◌, List, [], Option, None, Some, is_some, unwrap_or, IfSome, refl, sym, ap, ◌∙◌}
+use Rattle.std.specs.List.{list_any}
 use Rattle.std.specs.Option.{option_map_or}
-use Rattle.std.proofs.lemmas.List.{reverse-append}
-use Rattle.std.proofs.lemmas.List.Folds.{list_any-append}
 use Rattle.std.proofs.lemmas.Nat.Bits.{bit_at-zero}
-use Rattle.cps_code.specs.Image.{Piece, word_at, covers_word, covers_bit, packed_bit, packed_word, Deposits, ArePacked}
+use Rattle.cps_code.specs.Image.{Piece, word_at, covers_word, packed_bit, packed_word, ArePacked}
 use Rattle.cps_code.specs.Bits.{bit_from_left, number_of_bits}
 use Rattle.cps_code.specs.Code.Slots.{AreWords}
 use Rattle.cps_code.proofs.NumberLemmas.{number_of_bits-same, number_of_bits-whole}
@@ -30,15 +28,6 @@ chosen false f x other = refl
 or_false : (b : Bool) → (b || false) ≡ b
 or_false true = refl
 or_false false = refl
-
-pub packed-more : (pieces : List Piece) (piece : Piece) (old new : List (Option ℕ)) → ArePacked pieces old → Deposits old piece new → ArePacked (pieces ++ piece ∷ []) new
-packed-more pieces piece old new packed put = record {
-  stand = λ address. put.stand address ∙ ap (λ b. b || covers_word address piece) (packed.stand address)
-      ∙ sym (list_any-append (covers_word address) pieces (piece ∷ []) ∙ ap (λ b. list_any (covers_word address) pieces || b) (or_false (covers_word address piece)));
-  bits = λ address at within. put.bits address at within
-      ∙ ap (cond (covers_bit address at piece) (bit_from_left piece.width piece.number (at - piece.first))) (packed.bits address at within)
-      ∙ rw (reverse-append pieces (piece ∷ [])) (sym (chosen (covers_bit address at piece) (λ p. bit_from_left p.width p.number (at - p.first)) piece (find (covers_bit address at) (reverse pieces))));
-}
 
 pub packed-none : ArePacked [] []
 packed-none = record { stand = λ address. refl; bits = λ address at within. bit_at-zero (59 - at) }

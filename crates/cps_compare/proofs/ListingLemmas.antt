@@ -1,7 +1,7 @@
 -- Two listings, address by address.
 use Rattle.std.proofs.Common.{◌≡◌, ℕ, ◌+◌, ◌-◌, ◌^◌, ◌<◌, ◌≤◌, Bool, true, false, ◌||◌, ◌&&◌, cond, All, List, [], ◌∷◌, ◌++◌, length, suc, take, get_or, flat_map, Some, inl, inr, refl, sym, ap, ◌∙◌, arith, subst, append-nil, append_assoc}
 use Rattle.std.specs.Prelude.{nat_lt}
-use Rattle.std.specs.List.{filter, range_with_len, slice_get}
+use Rattle.std.specs.List.{slice_get}
 use Rattle.std.proofs.lemmas.Bool.{cases_Bool}
 use Rattle.std.proofs.lemmas.Bool.Decides.{nat_tests}
 use Rattle.std.proofs.lemmas.List.Elements.{All-append}
@@ -13,7 +13,7 @@ use Rattle.cps_list.specs.Assembly.{Assembly}
 use Rattle.cps_claims.specs.declared.listed_words.ListedWords.{ListedWords}
 use Rattle.cps_claims.specs.Code.Listed.{Lists}
 use Rattle.cps_claims.specs.declared.listed_digit.ListedDigit.{ListedDigit}
-use Rattle.cps_claims.specs.Listed.{ListedCode, listed_at}
+use Rattle.cps_claims.specs.Listed.{ListedCode}
 use Rattle.cps_claims.specs.ListedPlaces.{gives_listed, differs_in, differing_places, lacking_places, listed_places}
 use Rattle.cps_claims.proofs.ListedLemmas.{past-end}
 use Rattle.cps_compare.specs.declared.listed_sides.ListedSides as code
@@ -98,9 +98,6 @@ lines-next outcomes i outcome is =
     ap (λ n. line_codes 1 (take i outcomes) ++ flat_map (row_codes n) outcome.rows) same
     ∙ sym (lines-more 1 (take i outcomes) outcome)
     ∙ ap (line_codes 1) (sym (take-next outcomes i outcome there) ∙ ap (λ n. take n outcomes) (sym one))
-
-pub lists-same : (words : ListedWords) (codes more : List ListedCode) → codes ≡ more → Lists words codes → Lists words more
-lists-same words codes more same is = subst (Lists words) same is
 
 -- one row more
 pub rows-more : (number : ℕ) (words : ListedWords) (codes : List ListedCode) (rows : List final.Row) (i : ℕ) (row : final.Row) → i < length rows

@@ -1,8 +1,7 @@
 -- A text, piece by piece.
-use Rattle.std.proofs.Common.{◌≡◌, ℕ, ◌<◌, ◌≤◌, Bool, List, ◌++◌, filter, Option, None, Some, refl, ap, ◌∙◌, arith, append_assoc}
-use Rattle.std.specs.Prelude.{unwrap_or, All}
+use Rattle.std.proofs.Common.{◌≡◌, ℕ, ◌<◌, ◌≤◌, Bool, List, ◌++◌, filter, ap, ◌∙◌, arith, append_assoc}
+use Rattle.std.specs.Prelude.{All}
 use Rattle.std.specs.List.{range_with_len}
-use Rattle.std.specs.Option.{ForSome}
 use Rattle.std.proofs.lemmas.List.Elements.{All-filter, All-from_get_or}
 use Rattle.std.proofs.lemmas.List.FromFn.{length-range_with_len, get_or-range_with_len}
 
@@ -24,11 +23,6 @@ pub eight-pieces : (t a b c d e f g h r1 r2 r3 r4 r5 r6 r7 r8 : List ℕ) → r1
     → r6 ≡ r5 ++ f → r7 ≡ r6 ++ g → r8 ≡ r7 ++ h → r8 ≡ t ++ (a ++ b ++ c ++ d ++ e ++ f ++ g ++ h)
 eight-pieces t a b c d e f g h r1 r2 r3 r4 r5 r6 r7 r8 e1 e2 e3 e4 e5 e6 e7 e8 =
     e8 ∙ ap (λ (l : List ℕ). l ++ h) (seven-pieces t a b c d e f g r1 r2 r3 r4 r5 r6 r7 e1 e2 e3 e4 e5 e6 e7) ∙ simp append_assoc
-
--- a chosen value, or another
-pub unwrap-below : (o : Option ℕ) (d n : ℕ) → ForSome o (λ x. x < n) → d < n → unwrap_or o d < n
-unwrap-below None d n chosen other = other
-unwrap-below (Some x) d n chosen other = chosen x refl
 
 -- places of a word
 pub places-below : (test : ℕ → Bool) (count n : ℕ) → count ≤ n → All (λ place. place < n) (filter test (range_with_len 0 count))

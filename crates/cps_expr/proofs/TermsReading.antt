@@ -4,7 +4,7 @@ use Rattle.std.specs.Prelude.{option_map, is_none, is_some, IfSome, MatchOption}
 use Rattle.cps_expr.specs.declared.radix.Radix.{Radix}
 use Rattle.cps_expr.specs.OperandList.{with_first}
 use Rattle.cps_expr.specs.Term.{Term, term_of}
-use Rattle.cps_expr.specs.Expression.{Expression, is_sign, onto_first, cut_at_signs, with_first_sign, terms_of, signed_texts}
+use Rattle.cps_expr.specs.Expression.{Expression, is_sign, onto_first, cut_at_signs, terms_of}
 use Rattle.cps_expr.specs.Code.TermsLeft.{sign_of, terms_left, terms_behind}
 use Rattle.cps_expr.proofs.JoinLemmas.{joined, joined-more, readable-more}
 use Rattle.cps_expr.proofs.Choices.{chosen_first, chosen_second}
@@ -59,10 +59,6 @@ pub left-first : {R : Type 0} (radix : Radix) (minus : Bool) (now : R → List �
     → terms_left radix minus text ≡ with_first (term_of radix minus (take n text)) (terms_behind radix (option_map (λ rest. (rest.0, now rest.1)) later))
 left-first radix minus now n text later at is =
     left-cut radix minus n text at ∙ ap (with_first (term_of radix minus (take n text))) (behind radix now (drop n text) later (sign-behind n text at) is)
-
-pub left-start : (radix : Radix) (minus : Bool) (text rest : List ℕ) → with_first_sign text ≡ sign_of minus ∷ rest → terms_left radix minus rest ≡ terms_of radix (signed_texts text)
-left-start radix true text rest is = rw is refl
-left-start radix false text rest is = rw is refl
 
 -- one term more
 pub next-term : (left whole : Option Expression) (found : Option Term) (rest : Option Expression) (so_far next : Expression) (old new : Bool)

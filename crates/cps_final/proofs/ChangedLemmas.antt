@@ -8,11 +8,7 @@ use Rattle.cps_state.specs.declared.key.Answer.{Answer}
 use Rattle.cps_state.specs.declared.key.Put.{Put}
 use Rattle.cps_state.specs.Course.{last_put}
 use Rattle.cps_state.specs.Keys.{State, same_key, with_put, overwritten}
-use Rattle.cps_final.specs.Changes.{Changed, no_change, changed, with_change, without, agreed, AgreedLaw}
-
--- where nothing is changed, the same stands
-pub changed-no_change : (state : State) → changed no_change state ≡ state
-changed-no_change state = refl
+use Rattle.cps_final.specs.Changes.{Changed, changed, with_change, without, agreed, AgreedLaw}
 
 -- what stands behind puts is the last put there, or what stood before them
 pub overwritten-last : (state : State) (puts : List Put) (k : Key) → overwritten state puts k ≡ option_or (last_put puts k) (state k)

@@ -30,9 +30,6 @@ pub record Exchanged (ks : List Key) (now : Changed) (state : State) (next : Cha
   pub changes : (k : Key) → next k ≡ (if list_any (eq k) ks then Some (state k) else now k)
   pub answers : (k : Key) → next_state k ≡ (if list_any (eq k) ks then unwrap_or (now k) (state k) else state k)
 
-pub exchanged-none : (ks : List Key) (now : Changed) (state : State) → Exchanged (take 0 ks) now state now state
-exchanged-none ks now state = record { changes = λ k. refl; answers = λ k. refl }
-
 or-true : (b : Bool) → (b || true) ≡ true
 or-true true = refl
 or-true false = refl

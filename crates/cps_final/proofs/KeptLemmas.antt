@@ -10,15 +10,13 @@ use Rattle.indexmap.proofs.CallerLemmas.{updates-with_value_at}
 use Rattle.cps_state.specs.declared.key.Key.{Key}
 use Rattle.cps_state.specs.declared.key.Key.TheVariants as key
 use Rattle.cps_state.specs.declared.key.Answer.{Answer}
-use Rattle.cps_state.specs.declared.key.Put.{Put}
 use Rattle.cps_state.specs.contracts.key.KeyEq.TheImpl.Laws.{laws-law}
 use Rattle.cps_state.specs.contracts.key.KeyPartialEq.TheImpl.{eq-value}
-use Rattle.cps_state.specs.Course.{last_put}
 use Rattle.cps_state.specs.Code.Exchange.{with_answer, MayStand}
 use Rattle.cps_state.specs.Keys.{State, same_key}
 use Rattle.cps_state.specs.Code.KeptAnswers.{is_other, answers_in}
 use Rattle.cps_state.proofs.KnownLemmas.{same_key_is, same_key-true}
-use Rattle.cps_final.specs.Changes.{Changed, changed, with_change, without, agreed}
+use Rattle.cps_final.specs.Changes.{Changed, changed, with_change, without}
 use Rattle.cps_final.specs.Code.Kept.{MayStandIn}
 
 abbrev pub eq : Key → Key → Bool
@@ -92,14 +90,6 @@ stands-next now next at a stands some is k always none =
       | true ↦ λ h e. some (ap is_other (same_key-true at k h) ∙ always) (ap (λ (o : Option (Option Answer)). unwrap_or o a) e)
       | false ↦ λ h e. stands k always e
     ] refl here
-
-pub stands-without : (now : Changed) (at : Key) → MayStandIn now → MayStandIn (without now at)
-stands-without now at stands k always none =
-    elim (same_key at k) as (λ b. (if b then None else now k) ≡ Some None → ⊥) [ true ↦ λ e. cc | false ↦ λ e. stands k always e ] none
-
-pub stands-settled : (now : Changed) (puts : List Put) → MayStandIn now → MayStandIn (agreed now puts)
-stands-settled now puts stands k always none =
-    elim (is_some (last_put puts k)) as (λ b. (if b then None else now k) ≡ Some None → ⊥) [ true ↦ λ e. cc | false ↦ λ e. stands k always e ] none
 
 -- what stood at a changed key stands in a state now
 pub answer-changed : (now : Changed) (state next : State) (at : Key) (a : Option Answer) → Some a ≡ now at → next ≡ with_answer state at a → next ≡ with_answer state at (changed now state at)

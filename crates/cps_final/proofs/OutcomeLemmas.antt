@@ -15,27 +15,19 @@ use Rattle.cps_state.specs.declared.key.Put.{Put}
 use Rattle.cps_state.specs.Course.{Trace}
 use Rattle.cps_state.specs.Flags.{joined}
 use Rattle.cps_state.specs.Machines.{limit, behind}
-use Rattle.cps_state.specs.Made.{Made, no_flags, width_of, end_of, HaveRoom}
+use Rattle.cps_state.specs.Made.{no_flags, width_of, end_of}
 use Rattle.cps_state.proofs.PlaceLemmas.{end-not-before, end-next}
 use Rattle.cps_final.specs.declared.row.Row.{Row}
 use Rattle.cps_final.specs.Values.{Resolved, known_in, PlacedStatement, placed_statement, first_address}
 use Rattle.cps_final.specs.Places.{with_places}
-use Rattle.cps_final.specs.Rows.{row_at, later_rows, content_rows, with_contents, blank_row, rows_with, rows_made, row_of, rows_of}
+use Rattle.cps_final.specs.Rows.{row_at, later_rows, content_rows, with_contents, blank_row, rows_with, row_of}
 use Rattle.cps_final.specs.LineNames.{defined_by, names_defined, names_later, names_read, read_by, symbol_put}
 use Rattle.cps_final.specs.Code.NamesKept.{few_or_many}
 use Rattle.cps_final.specs.Outcome.{Output, output_of, outcome_of, joined_with}
 use Rattle.cps_final.proofs.BlockLemmas.{same_name-laws}
 use Rattle.cps_final.proofs.GatherLemmas.{distinct-append}
-use Rattle.cps_final.proofs.PieceLemmas.{room-given, room-low}
 
 -- ---- the walk over contents
-
--- from the place where a statement starts its contents have room
-pub room-first : (machine : Machine) (made : Made) (at : ℕ) → machine ≡ made.machine → at ≡ made.start → HaveRoom made.machine made.start made.contents
-    → (at ≤ 60 * limit machine) × (end_of machine at made.contents ≤ 60 * limit machine)
-room-first machine made at of starts room =
-    let given = room-given machine at made of starts room in
-    (room-low machine at made.contents given, given.within)
 
 -- the rows from a place on, where the first has these flags
 abbrev pub rows_from : PlacedStatement → Flags → Bool → ℕ → List Content → List Row
@@ -182,32 +174,6 @@ pub appends-more : {X Y : Type 0} (f : X → List Y) (xs : List X) (i : ℕ) (x 
 appends-more f xs i x mid new lt is before made = made ∙ ap (λ l. l ++ f x) before ∙ sym (flat_map-more f xs i x lt is)
 
 -- ---- flags
-
--- a row of a statement has the flags that it has without depth and text
-same-flags : (item : Item) (row : Row) → (row_of item row).flags ≡ row.flags
-same-flags item row = elim row.is_later as (λ b. (if b then row else record row { depth = item.depth; text = item.text }).flags ≡ row.flags) [ true ↦ refl | false ↦ refl ]
-
-rows-flags : (item : Item) (flags : Flags) (rows : List Row) → joined_with flags (map (row_of item) rows) ≡ joined_with flags rows
-rows-flags item flags [] = refl
-rows-flags item flags (row ∷ rows) =
-    ap (λ (own : Flags). joined_with (joined flags own) (map (row_of item) rows)) (same-flags item row) ∙ rows-flags item (joined flags row.flags) rows
-
-rows-joined : {X : Type 0} (f : X → List Row) (xs : List X) (i : ℕ) (x : X) (flags : Flags) → i < length xs → x ≡ get_or xs i x
-    → joined_with flags (flat_map f (drop i xs)) ≡ joined_with (joined_with flags (f x)) (flat_map f (drop (i + 1) xs))
-rows-joined f xs i x flags lt is =
-    ap (λ l. joined_with flags (flat_map f l)) (drop_more xs i x lt)
-    ∙ fold-append (λ all (row : Row). joined all row.flags) flags (f (get_or xs i x)) (flat_map f (drop (i + 1) xs))
-    ∙ ap (λ y. joined_with (joined_with flags (f y)) (flat_map f (drop (i + 1) xs))) (sym is)
-
-pub item-flags-next : (finals : Resolved) (items shown : List Item) (i : ℕ) (item : Item) (flags new end : Flags) → items ≡ shown → i < length items → item ≡ get_or items i item
-    → new ≡ joined_with flags (rows_made finals item) → joined_with flags (flat_map (rows_of finals) (drop i shown)) ≡ end
-    → joined_with new (flat_map (rows_of finals) (drop (i + 1) shown)) ≡ end
-item-flags-next finals items shown i item flags new end same lt is joins so_far =
-    let f = rows_of finals in
-    let within : i < length shown = subst (λ (l : List Item). i < length l) same lt in
-    let is-now : item ≡ get_or shown i item = is ∙ ap (λ (l : List Item). get_or l i item) same in
-    let joins-now : new ≡ joined_with flags (rows_of finals item) = joins ∙ sym (rows-flags item flags (rows_made finals item)) in
-    ap (λ (fs : Flags). joined_with fs (flat_map f (drop (i + 1) shown))) joins-now ∙ sym (rows-joined f shown i item flags within is-now) ∙ so_far
 
 -- a few names, or many: which of them there are
 pub all-few : (few many : List Name) → many ≡ [] → few_or_many few many ≡ few

@@ -11,7 +11,7 @@ use Rattle.cps_input.specs.declared.intake.Intake.{Intake}
 use Rattle.cps_input.specs.declared.intake.Intake.TheVariants as intakes
 use Rattle.cps_input.specs.declared.input.Input.{Input}
 use Rattle.cps_text.specs.declared.limits.TheConstants.{MOST_LINES}
-use Rattle.cps_input.specs.Sources.{IsSource, IsWrong, IsFirstWrong, IsReadWhole, Refuses, ReadsLines}
+use Rattle.cps_input.specs.Sources.{IsSource, IsFirstWrong, IsReadWhole, Refuses, ReadsLines}
 use Rattle.cps_input.specs.Reads.{IsAllRead}
 use Rattle.cps_input.specs.Code.BegunLine.{IsBegun}
 use Rattle.cps_input.specs.Code.Input.{IsIntake, HasCome}
@@ -27,18 +27,6 @@ pub source-more : (lines : List (List ℕ)) (line : List ℕ) → IsSource lines
 source-more lines line source is_line few = record {
   each = All-push IsLine lines line source.each is_line;
   few = omega (arith, length-append lines (line ∷ []));
-}
-
--- a line that no source may have, after lines that one may have
-pub wrong-here : (lines : List (List ℕ)) (line : List ℕ) (fault : InputFault) (number : ℕ) → IsSource lines → number ≡ length lines + 1 → IsWrong number line fault
-    → IsFirstWrong (lines ++ line ∷ []) fault
-wrong-here lines line fault number source is wrong = record {
-  front = lines;
-  line = line;
-  back = [];
-  whole = refl;
-  before = source;
-  wrong = subst (λ n. IsWrong n line fault) is wrong;
 }
 
 -- what comes after it doesn't matter

@@ -2,14 +2,12 @@
 use Rattle.std.proofs.Common.{◌≡◌, ℕ, ◌+◌, ◌/◌, ◌%◌, ◌<◌, ◌≤◌, Bool, true, false, not, ◌||◌, eqb, List, [], ◌∷◌, ◌++◌, length, drop, flat_map, Option, None, Some, refl, sym, ap, ◌∙◌, arith, append_assoc, append-nil, ⊎_elim}
 use Rattle.std.specs.Char.{encode_utf8}
 use Rattle.std.specs.Option.{option_map_or}
-use Rattle.std.specs.Prelude.{codes, slice_index}
-use Rattle.std.proofs.lemmas.Bool.{cond-true, cond-false, cases_lt, cases_Bool, and_parts, and_from, le-ltb, lt-ltb, lt-leb, ne_eqb}
-use Rattle.std.proofs.lemmas.Bool.Decides.{nat_tests}
+use Rattle.std.specs.Prelude.{codes}
+use Rattle.std.proofs.lemmas.Bool.{cond-true, cond-false, cases_lt, cases_Bool, and_from, le-ltb, lt-ltb, ne_eqb}
 use Rattle.std.proofs.lemmas.List.{nil_from_length}
 use Rattle.std.proofs.lemmas.List.Folds.{list_all-append}
-use Rattle.bstr.specs.Utf8.{Decoded, good, decoded, pieces}
-use Rattle.bstr.proofs.lemmas.PieceLemmas.{piece-bounds, pieces-nil, pieces-step, value-1}
-use Rattle.cps_text.specs.Line.{IsLine, all_accepted, is_accepted_byte}
+use Rattle.bstr.specs.Utf8.{Decoded, decoded, pieces}
+use Rattle.bstr.proofs.lemmas.PieceLemmas.{piece-bounds, pieces-nil, pieces-step}
 use Rattle.cps_input.specs.Shown.{has_no_control, is_control, is_obeyed, shown, shown_character, shown_piece, shown_width}
 
 pub shown-nil : shown [] ≡ []
@@ -82,36 +80,3 @@ safe_pieces (piece ∷ parts) =
 
 pub shown-safe : (line : List ℕ) → has_no_control (shown line) ≡ true
 shown-safe line = safe_pieces (pieces line)
-
--- ---- a line is shown as it is
-
-plain_character : (c : ℕ) → 32 ≤ c → c ≤ 126 → shown_character c ≡ c ∷ []
-unfolding encode_utf8
-plain_character c low most =
-    rw (
-      ne_eqb c 9 (λ e. omega arith),
-      le-ltb c 32 low,
-      ne_eqb c 127 (λ e. omega arith),
-      lt-leb 128 c (omega arith),
-      lt-leb 8203 c (omega arith),
-      lt-leb 8232 c (omega arith),
-      lt-leb 8288 c (omega arith),
-      ne_eqb c 65279 (λ e. omega arith),
-      lt-ltb c 128 (omega arith),
-    )
-
-shown-accepted : (line : List ℕ) → all_accepted line ≡ true → shown line ≡ line
-shown-accepted [] all = shown-nil
-shown-accepted (byte ∷ line) all =
-    let parts = and_parts (is_accepted_byte byte) (all_accepted line) all in
-    let bounds : (32 ≤ byte) × (byte ≤ 126) = (grind (arith, nat_tests), grind (arith, nat_tests)) in
-    let is : decoded (byte ∷ line) ≡ good byte 1 =
-    value-1 (length (byte ∷ line)) byte (slice_index (byte ∷ line) 1) (slice_index (byte ∷ line) 2) (slice_index (byte ∷ line) 3) (omega arith, omega arith) in
-    shown-step (byte ∷ line) (omega arith)
-    ∙ ap (λ piece. shown_piece piece ++ shown (drop piece.size (byte ∷ line))) is
-    ∙ ap (λ text. text ++ shown line) (plain_character byte bounds.0 bounds.1)
-    ∙ ap (λ rest. byte ∷ rest) (shown-accepted line parts.1)
-
--- a line is shown as it is
-pub shown-line : (line : List ℕ) → IsLine line → shown line ≡ line
-shown-line line is = shown-accepted line is.accepted

@@ -49,10 +49,6 @@ splits-piece taken lines rest piece so_far other = record {
   last = list_all-append (λ b. not (eqb b newline)) rest piece ∙ both (has_no_newline rest) (has_no_newline piece) so_far.last other;
 }
 
-pub splits-byte : (taken : List ℕ) (lines : List (List ℕ)) (rest : List ℕ) (byte : ℕ) → Splits taken lines rest → eqb byte newline ≡ false
-    → Splits (taken ++ byte ∷ []) lines (rest ++ byte ∷ [])
-splits-byte taken lines rest byte so_far other = splits-piece taken lines rest (byte ∷ []) so_far (rw other refl)
-
 pub record Split (bytes : List ℕ) : Type 0 where
   pub lines : List (List ℕ)
   pub rest : List ℕ

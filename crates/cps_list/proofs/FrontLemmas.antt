@@ -73,19 +73,6 @@ front-same front begun same columns is eq = record {
   within = let within = is.within in let long : length same ≡ length begun = ap length (sym eq) in omega (arith, within, long);
 }
 
--- nothing more is shown in a column
-pub front-unwritten : (front begun : List ℕ) (before : ℕ) → IsFront front begun before → before ≤ 44 → IsFront front (with_column begun (record { first = before + 1; text = [] })) before
-front-unwritten front begun before is most =
-    let same : before + 1 - 1 ≡ before = omega arith in
-    let row = with_column begun (record { first = before + 1; text = [] }) in
-    let shaped : row ≡ at_left before begun = ap (λ n. at_left n begun ++ []) same ∙ append-nil (at_left before begun) in
-    let long : length row ≡ before = ap length shaped ∙ at_left-length begun before is.within in
-    let sum : before + (44 - before) ≡ 44 = omega (arith, most) in
-    record {
-      filled = is.filled ∙ ap (λ n. at_left n begun) (sym sum) ∙ at_left-more begun before (44 - before) is.within ∙ (λ i. sym shaped i ++ blanks (44 - sym long i));
-      within = omega (arith, long);
-    }
-
 -- a text at the right of six columns begins where its own columns do
 pub right-column : (begun shown : List ℕ) → length begun ≤ 37 → length shown ≤ 6
     → with_column begun (record { first = 43 - length shown + 1; text = shown }) ≡ with_column begun (record { first = 38; text = at_right 6 shown })

@@ -185,13 +185,6 @@ defining-later ms i d lt is =
     at_drop_more defining_line ms i d lt
     ∙ ap (λ b. option_map_or (λ (m : Mention). m.line) (cond b (Some (get_or ms i d)) (find_first (λ (m : Mention). m.is_definition) (drop (i + 1) ms))) 0) is
 
-pub prefix-here : (n : Name) (ms : List Mention) (i : ℕ) (d : Mention) → i < length ms → same_name (get_or ms i d).name n ≡ false → prefix_len (is_of n) (drop i ms) ≡ 0
-prefix-here n ms i d lt is = at_drop_more (prefix_len (is_of n)) ms i d lt ∙ ap (λ b. cond b (1 + prefix_len (is_of n) (drop (i + 1) ms)) 0) is
-
-pub prefix-later : (n : Name) (ms : List Mention) (i : ℕ) (d : Mention) → i < length ms → same_name (get_or ms i d).name n ≡ true
-    → prefix_len (is_of n) (drop i ms) ≡ 1 + prefix_len (is_of n) (drop (i + 1) ms)
-prefix-later n ms i d lt is = at_drop_more (prefix_len (is_of n)) ms i d lt ∙ ap (λ b. cond b (1 + prefix_len (is_of n) (drop (i + 1) ms)) 0) is
-
 -- ---- the first symbol, as it is cut off
 
 pub group-some : (rest : List Mention) (m : Mention) → Some m ≡ slice_get rest 0 → 1 ≤ prefix_len (is_of m.name) rest

@@ -1,6 +1,5 @@
 -- Where blocks and literals stand where two runs of lines have changed places.
-use Rattle.std.proofs.Common.{arith, ◌≡◌, refl, sym, ap, subst, ◌∙◌, ℕ, ◌+◌, ◌-◌, ◌≤◌, List, [], ◌∷◌, ◌++◌, append_assoc, length, take, drop}
-use Rattle.std.proofs.lemmas.List.{length-take, length-drop}
+use Rattle.std.proofs.Common.{arith, ◌≡◌, refl, sym, ap, subst, ◌∙◌, ◌+◌, ◌-◌, ◌≤◌, List, [], ◌∷◌, ◌++◌, append_assoc, length, take, drop}
 use Rattle.cps_state.specs.Course.{Trace}
 use Rattle.cps_edit.specs.declared.exchange.Exchange.{Exchange}
 use Rattle.cps_edit.specs.Exchange.{IsWithin, exchanged}
@@ -94,9 +93,3 @@ module _ (e : Exchange) (olds : List Trace) (news : List (SparseItem Trace)) (wi
         (λ i. ((renewed-none 0 (take e.keep olds) i ++ renewed e.mid second (sym (stretch-part e.mid e.from within.second olds) i))
         ++ renewed e.keep first (sym (stretch-part e.keep e.mid within.first olds) i)) ++ renewed e.from behind (stretch e.from (length olds) olds))
         ∙ parts-moved (stretch e.from (length olds) olds) (stretch-all e.from olds)
-
--- places among the lines of a run, by how many it has
-pub run-end : (a b : ℕ) (olds : List Trace) (news : List (SparseItem Trace)) → a ≤ b → b ≤ length olds → AreWithin a b news → AreWithin a (a + length (take (b - a) (drop a olds))) news
-run-end a b olds news le most places =
-    let end : b ≡ a + length (take (b - a) (drop a olds)) = omega (arith, length-take (b - a) (drop a olds), length-drop a olds, le, most) in
-    subst (λ (k : ℕ). AreWithin a k news) end places

@@ -1,4 +1,3 @@
 pub mod AddsLemmas
 pub mod EscapingLemmas
 pub mod IdentifierLemmas
-pub mod LinkLemmas

@@ -1,7 +1,6 @@
 -- What wrote the characters that a call puts in.
 use Rattle.std.proofs.Common.{◌≡◌, ℕ, zero, suc, ◌+◌, ◌<◌, Bool, true, false, not, cond, List, [], ◌∷◌, ◌++◌, Option, None, Some, map, length, replicate, drop, get_or, append_assoc, refl, sym, ap, ◌∙◌, arith}
 use Rattle.std.specs.Prelude.{option_map, option_and_then, slice_get, unwrap_or, if◌then◌else◌}
-use Rattle.std.specs.Borrow.{Bor}
 use Rattle.std.specs.List.{find, flat_map, position_from}
 use Rattle.std.proofs.lemmas.List.{drop_more, map-append}
 use Rattle.cps_text.specs.declared.name.Name.{Name}
@@ -13,7 +12,7 @@ use Rattle.cps_text.specs.Runs.{runs}
 use Rattle.cps_mention.specs.declared.macro_names.MacroName.{MacroName}
 use Rattle.cps_mention.specs.declared.stretch.Stretch.{Stretch}
 use Rattle.cps_mention.specs.CallLines.{ArePut, Substitute, Substitutes, Written, argument, columns, generated, generated_len, origins_of, pairs_of, put_for, put_in, put_or_kept, put_run, put_runs, standing_for, substitute_at, substitute_text, substitutes_from, text_of, without_marks, written_on}
-use Rattle.cps_mention.specs.Code.MacroNames.{kept_origins, lists_of, origins_at, origins_for, origins_from, place_in, run_origins}
+use Rattle.cps_mention.specs.Code.MacroNames.{kept_origins, origins_at, origins_for, origins_from, place_in, run_origins}
 
 -- ---- law: the text
 
@@ -207,20 +206,7 @@ kept-more line before at text items new whole within other is was =
     ∙ ap (λ t. items ++ kept_origins line before t) (sym (drop_more text at 0 within))
     ∙ was
 
-pub mark-more : (line before at : ℕ) (text : List ℕ) (items whole : List Stretch) → at < length text → is_mark (get_or text at 0) ≡ true
-    → items ++ kept_origins line before (drop at text) ≡ whole → items ++ kept_origins line (before + 1) (drop (at + 1) text) ≡ whole
-mark-more line before at text items whole within mark was =
-    let one : ℕ × Stretch = (get_or text at 0, columns line before 1) in
-    ap (λ t. items ++ t) (sym (kept-by false one (written_on line (before + 1) (drop (at + 1) text)) (ap not mark)))
-    ∙ ap (λ t. items ++ kept_origins line before t) (sym (drop_more text at 0 within))
-    ∙ was
-
 -- ---- one run more
-
-pub got-lists : (arguments : List (Bor (List Stretch))) (at : ℕ) → slice_get (lists_of arguments) at ≡ option_map (λ a. a.now) (slice_get arguments at)
-got-lists [] at = refl
-got-lists (one ∷ arguments) zero = refl
-got-lists (one ∷ arguments) (suc at) = got-lists arguments at
 
 pub name-put : (names : List MacroName) (arguments : List (List Stretch)) (line before : ℕ) (run : List ℕ) (at : ℕ) (stretch : Stretch) (name : Option MacroName)
     → option_and_then (place_in names) (name_of run) ≡ Some at → stretch ≡ columns line before (length run) → name ≡ slice_get names at

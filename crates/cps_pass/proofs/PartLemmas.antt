@@ -1,7 +1,7 @@
 -- Parts that are done one after the other.
-use Rattle.std.proofs.Common.{◌≡◌, ◌∙◌, Result, Ok, Err}
+use Rattle.std.proofs.Common.{◌∙◌, Result, Ok, Err}
 use Rattle.std.specs.Prelude.{OnOk}
-use Rattle.cps_state.specs.Course.{Part, ◌before◌}
+use Rattle.cps_state.specs.Course.{Part}
 use Rattle.cps_state.specs.Code.Line.{Line, Does, Hands}
 use Rattle.cps_state.specs.Keys.{State}
 
@@ -10,8 +10,3 @@ pub handed-then : {T U V S : Type 0} (part : (T → Part) → Part) (value : T) 
     → Hands part value f s t → OnOk r (Does (next value) f t u) → OnOk r (Does (part next) f s u)
 handed-then part value next f s t u (Ok x) hands does = λ rest. hands next rest ∙ does rest
 handed-then part value next f s t u (Err x) hands does = tt
-
-pub done-then : {U V S : Type 0} (first second : Part) (f : S → State) (s t u : Line S) (r : Result U V)
-    → Does first f s t → OnOk r (Does second f t u) → OnOk r (Does (first before second) f s u)
-done-then first second f s t u (Ok x) does then = λ rest. does (second rest) ∙ then rest
-done-then first second f s t u (Err x) does then = tt

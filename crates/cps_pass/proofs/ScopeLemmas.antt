@@ -1,5 +1,5 @@
 -- Parts that are done one after the other, where the last one hands a value on; and lines that are asked one after the other.
-use Rattle.std.proofs.Common.{◌≡◌, ℕ, suc, ◌+◌, ◌-◌, ◌<◌, arith, sym, ap, ◌∙◌, Bool, true, false, Result, Ok, Err, List, [], ◌∷◌, ◌++◌, append_assoc}
+use Rattle.std.proofs.Common.{◌≡◌, ℕ, suc, ◌+◌, ◌-◌, ◌<◌, arith, sym, ap, ◌∙◌, Bool, false, Result, Ok, Err, List, [], ◌∷◌, ◌++◌, append_assoc}
 use Rattle.std.specs.Prelude.{OnOk, if◌then◌else◌}
 use Rattle.cps_state.specs.declared.key.Key.TheVariants as key
 use Rattle.cps_state.specs.declared.flags.Flags.{Flags}
@@ -22,11 +22,6 @@ handed-flagged part value flags given f s t u is hands made = λ next rest.
     hands (λ later. fill (nothing_made flags) before next later) rest
     ∙ ap (λ (g : Flags). runs (next value rest) f (line_filled t (nothing_made g))) (sym is)
     ∙ ap (λ r. runs (next value rest) f r) (sym made)
-
--- one of two parts hands a value on
-pub handed-if : {T S : Type 0} (holds : Bool) (first second : (T → Part) → Part) (value : T) (f : S → State) (s t : Line S) → holds ≡ true
-    → Hands first value f s t → Hands (λ next. if holds then first next else second next) value f s t
-handed-if holds first second value f s t is hands = λ next rest. ap (λ (b : Bool). runs ((if b then first next else second next) rest) f s) is ∙ hands next rest
 
 pub handed-else : {T S : Type 0} (holds : Bool) (first second : (T → Part) → Part) (value : T) (f : S → State) (s t : Line S) → holds ≡ false
     → Hands second value f s t → Hands (λ next. if holds then first next else second next) value f s t

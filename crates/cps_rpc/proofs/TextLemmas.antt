@@ -141,9 +141,3 @@ text_of-newline lines some =
     ap (λ l. text_of (l ++ [] ∷ [])) (with-last lines some)
     ∙ text_of-ended (take (length lines - 1) lines) (get_or lines (length lines - 1) [])
     ∙ ap (λ l. text_of l ++ newline ∷ []) (sym (with-last lines some))
-
-pub AreLines-newline : (lines : List (List ℕ)) → AreLines lines → AreLines (lines ++ [] ∷ [])
-AreLines-newline lines are = record {
-  some = omega (arith, length-append lines ([] ∷ []));
-  each = all-both lines ([] ∷ []) are.each refl;
-}

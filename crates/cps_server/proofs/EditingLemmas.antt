@@ -1,9 +1,7 @@
 -- Lists that grow by one.
-use Rattle.std.proofs.Common.{◌≡◌, ℕ, List, [], ◌∷◌, ◌++◌, ◌+◌, ◌<◌, length, take, get_or, map, All, sym, ap, subst, append_assoc, ◌∙◌}
+use Rattle.std.proofs.Common.{◌≡◌, ℕ, List, [], ◌∷◌, ◌++◌, ◌+◌, ◌<◌, length, take, get_or, map, All, sym, ap, ◌∙◌}
 use Rattle.std.proofs.lemmas.List.{map-append, map_more}
 use Rattle.std.proofs.lemmas.List.Elements.{All-same, All-push}
-use Rattle.cps_server.specs.Foldings.{AreFoldings, IsFolding}
-use Rattle.cps_server.specs.declared.folding.Folding.{Folding}
 
 pub all-grown : {X : Type 0} (P : X → Type 0) (xs ys : List X) (x : X) → All P xs → P x → ys ≡ xs ++ x ∷ [] → All P ys
 all-grown P xs ys x all one is = All-same P ys (xs ++ x ∷ []) is (All-push P xs x all one)
@@ -13,10 +11,3 @@ pub told-more : {X V D : Type 0} (view : V → D) (tell : X → D) (xs : List X)
     → map view old ≡ map tell (take i xs) → view v ≡ tell (get_or xs i d) → new ≡ old ++ v ∷ [] → map view new ≡ map tell (take (i + 1) xs)
 told-more view tell xs i d old new v within before is added =
     ap (map view) added ∙ map-append view old (v ∷ []) ∙ (λ j. before j ++ is j ∷ []) ∙ sym (map_more tell xs i d within)
-
--- one folding more, with what follows it
-pub fold-more : (count least : ℕ) (kept next : List Folding) (folding : Folding) → next ≡ kept ++ folding ∷ [] → IsFolding count least folding
-    → ((rest : List Folding) → AreFoldings count least rest → AreFoldings count 0 (kept ++ rest))
-    → (rest : List Folding) → AreFoldings count folding.first rest → AreFoldings count 0 (next ++ rest)
-fold-more count least kept next folding is stands before rest follows =
-    subst (AreFoldings count 0) (sym (ap (λ l. l ++ rest) is ∙ append_assoc kept (folding ∷ []) rest)) (before (folding ∷ rest) (stands, follows))

@@ -13,7 +13,6 @@ use Rattle.cps_list.specs.Symbols.{value_of}
 use Rattle.cps_edit.specs.Assembly.{outcomes_of}
 use Rattle.cps_server.specs.Document.{source_of_text}
 use Rattle.cps_server.specs.Rows.{hint_of}
-use Rattle.cps_server.specs.Ranges.{range_of}
 use Rattle.cps_server.specs.Results.{text_beside}
 
 -- what follows of what holds of a result
@@ -55,10 +54,6 @@ next-listing listing told next all number end within added rest =
     let behind = map listing (range_with_len (number + 1) (end - (number + 1))) in
     (λ i. added i ++ behind) ∙ append_assoc told (listing (number + 1 - 1) ∷ []) behind ∙ (λ i. told ++ (listing (back i) ∷ behind))
     ∙ ap (λ count. told ++ map listing (range_with_len number count)) (sym one_less) ∙ rest
-
--- a range in a line, by numbers of it that are the same
-pub as-range : (json : Data) (given number start end : ℕ) → json ≡ range_of given start end → given ≡ number → json ≡ range_of number start end
-as-range json given number start end is same = is ∙ ap (λ line. range_of line start end) same
 
 -- the value of a symbol, by values that are the same
 pub valued : (value : Option Value) (given finals : Finals) (name : Name) → value ≡ value_of given name → given ≡ finals → value ≡ value_of finals name

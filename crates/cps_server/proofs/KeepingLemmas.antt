@@ -7,7 +7,6 @@ use Rattle.std.proofs.lemmas.List.{drop_min, length-append, length-drop, length-
 use Rattle.std.proofs.lemmas.List.Elements.{All-cons, All-nil}
 use Rattle.std.proofs.lemmas.Option.{slice_get_within}
 use Rattle.cps_text.specs.declared.limits.TheConstants.{MOST_LINES}
-use Rattle.cps_final.specs.Outcome.{Outcome}
 use Rattle.cps_input.specs.Card.{card_of}
 use Rattle.cps_rpc.specs.Lines.{source_lines}
 use Rattle.cps_rpc.specs.declared.replacement.Replacement.{Replacement}
@@ -197,11 +196,6 @@ place-same first count at none = by_test (nat_lt at first) refl
     by_test : (b : Bool) → nat_lt at first ≡ b → (if b then at else at - (first + count) + first) ≡ at
     by_test true test = refl
     by_test false test = let le = not-less at first test in omega (arith, le, none)
-
--- where nothing is put, nothing is made anew
-pub idle-redone : (outcomes : List Outcome) (first : ℕ) (cards : List (List ℕ)) (places : List ℕ) → length cards ≡ 0
-    → AreRedone outcomes (record { keep = first; from = first; new = cards }) outcomes places
-idle-redone outcomes first cards places none at left fresh = ap (slice_get outcomes) (sym (place-same first (length cards) at none))
 
 -- what a change touches of a text, by what it touches of the session's lines
 touched-by : (old new : List ℕ) (source now cards : List (List ℕ)) (r : Replacement) (last : ℕ) (places : List ℕ) → IsInSource old new r

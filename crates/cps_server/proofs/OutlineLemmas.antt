@@ -35,9 +35,6 @@ row-placed kind detail name row is = record { kind = kind; detail = detail; name
 
 -- ---- rows are taken
 
-pub take-none : (first end : ℕ) (rows : List OutlineRow) → All IsPlaced rows → TakesRows first end rows rows []
-take-none first end rows placed = record { within = All-nil (IsRowBetween first end); placed = placed; same = IsPermutation-refl (map row_json rows) }
-
 pub take-one : (first end : ℕ) (old rest : List OutlineRow) (taken : List Value) (row : OutlineRow) (json : Value)
     → TakesRows first end old (rest ++ row ∷ []) taken → first ≤ row.line → row.line < end → view json ≡ row_json row
     → TakesRows first end old rest (taken ++ json ∷ [])

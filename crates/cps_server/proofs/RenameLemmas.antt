@@ -1,6 +1,6 @@
 -- What is owed to one who asks for a name, or wishes to call it otherwise.
-use Rattle.std.proofs.Common.{◌≡◌, refl, sym, ap, subst, ◌∙◌, inl, inr, ℕ, ℤ, Bool, true, false, List, [], ◌∷◌, map, Option, Some, None}
-use Rattle.std.specs.Prelude.{pos, negsuc, ◌⊎◌, ◌||◌, if◌then◌else◌}
+use Rattle.std.proofs.Common.{◌≡◌, refl, ap, subst, ◌∙◌, inl, inr, ℕ, ℤ, Bool, true, false, List, [], ◌∷◌, map, Option, Some, None}
+use Rattle.std.specs.Prelude.{pos, negsuc, ◌||◌, if◌then◌else◌}
 use Rattle.serde_json.specs.Data.{Data}
 use Rattle.serde_json.specs.View.{items_of}
 use Rattle.serde_json.specs.Written.{has_float, items_have_float}
@@ -9,35 +9,17 @@ use Rattle.cps_mention.specs.declared.calling.Calling.{Calling}
 use Rattle.cps_mention.specs.SameBut.{SameBut}
 use Rattle.cps_rpc.specs.declared.client.Client.{Client}
 use Rattle.cps_rpc.specs.declared.encoding.Encoding.{Encoding}
-use Rattle.cps_rpc.specs.declared.error_code.ErrorCode.TheVariants.{InvalidParams}
-use Rattle.cps_rpc.specs.declared.position.Position.{Position}
-use Rattle.cps_rpc.specs.Params.{position_at}
 use Rattle.cps_server.specs.Document.{source_of_text}
 use Rattle.cps_server.specs.Code.Owing.{has_float_owed}
-use Rattle.cps_server.specs.Renames.{Edit, IsSameText, TellsName, TellsRename, Wish, edit_json, versioned_edit, wish_in, workspace_edit}
-use Rattle.cps_server.specs.Requests.{IsOwed, Owed, OwesAsked, OwesName, OwesRename, open_in, refused}
+use Rattle.cps_server.specs.Renames.{Edit, IsSameText, TellsRename, Wish, edit_json, versioned_edit, wish_in, workspace_edit}
+use Rattle.cps_server.specs.Requests.{IsOwed, Owed, OwesAsked, OwesRename, open_in}
 use Rattle.cps_server.specs.ServerState.{OpenText, ServerState}
 
 abbrev is_none : {A : Type 0} → Option A → Type 0
 is_none None = Unit {0}
 is_none (Some a) = ⊥
 
-no-some : {A C : Type 0} (a : A) → None ≡ Some a → C
-no-some a is = absurd (subst is_none is tt)
-
 -- ---- by what is asked
-
-pub asks-no-text : {A : Type 0} (one : Option OpenText) (asked : Option A) (tells : OpenText → A → Data → Type 0) → None ≡ one
-    → OwesAsked one asked tells (refused InvalidParams)
-asks-no-text None asked tells none = refl
-asks-no-text (Some one) None tells none = refl
-asks-no-text (Some one) (Some asked) tells none = no-some one none
-
-pub asks-nothing : {A : Type 0} (one : Option OpenText) (asked : Option A) (tells : OpenText → A → Data → Type 0) → None ≡ asked
-    → OwesAsked one asked tells (refused InvalidParams)
-asks-nothing None asked tells none = refl
-asks-nothing (Some one) None tells none = refl
-asks-nothing (Some one) (Some asked) tells none = no-some asked none
 
 pub asks : {A : Type 0} (found : Option OpenText) (wanted : Option A) (tells : OpenText → A → Data → Type 0) (one : OpenText) (asked : A) (owed : Owed)
     → Some one ≡ found → Some asked ≡ wanted → IsOwed (tells one asked) owed → OwesAsked found wanted tells owed
@@ -61,9 +43,6 @@ pub edits-no-float : (edits : List Edit) → items_have_float (items_of (map edi
 edits-no-float [] = refl
 edits-no-float (e ∷ edits) = edits-no-float edits
 
-name-no-float : (at : Position) (json : Data) → TellsName at json → has_float json ≡ false
-name-no-float at json is = ap has_float is.3
-
 told-no-float : (takes : Bool) (uri : List ℕ) (version : Option ℤ) (edits : List Edit)
     → has_float (if takes then versioned_edit uri version edits else workspace_edit uri edits) ≡ false
 told-no-float false uri version edits = ap (λ b. (b || false) || false) (edits-no-float edits)
@@ -74,10 +53,6 @@ told-no-float true uri (Some (negsuc n)) edits = ap (λ b. ((b || false) || fals
 rename-no-float : (encoding : Encoding) (client : Client) (one : OpenText) (wish : Wish) (json : Data) → TellsRename encoding client one wish json
     → has_float json ≡ false
 rename-no-float encoding client one wish json is = ap has_float is.4 ∙ told-no-float client.takes_versions one.uri one.version is.1
-
-pub naming-no-float : (params : Data) (old : ServerState) (owed : Owed) → OwesName params old owed → has_float_owed owed ≡ false
-naming-no-float params old owed is =
-    asked-no-float (open_in params old) (position_at params) (λ one at json. TellsName at json) (λ one at json tells. name-no-float at json tells) owed is
 
 pub renaming-no-float : (params : Data) (old : ServerState) (owed : Owed) → OwesRename params old owed → has_float_owed owed ≡ false
 renaming-no-float params old owed is =

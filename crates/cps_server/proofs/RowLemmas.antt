@@ -132,8 +132,3 @@ listing-pushed text number line bytes outcome rows old new counts same_line same
 pub row-filled : (finals : Finals) (name : Name) (mentions : List Mention) → 0 < length mentions → row_under finals (Some name) mentions ≡ row_of finals name mentions
 row-filled finals name [] some = absurd (search (rules, arith))
 row-filled finals name (mention ∷ mentions) some = refl
-
-pub row-pushed : (old new : List ℕ) (given finals : Finals) (name : Name) (ms mentions : List Mention) (row : List ℕ) → given ≡ finals → ms ≡ mentions
-    → row ≡ row_under finals (Some name) mentions → new ≡ old ++ row_under given (Some name) ms → new ≡ old ++ row
-row-pushed old new given finals name ms mentions row same listed is pushed =
-    pushed ∙ (λ i. old ++ row_under (same i) (Some name) (listed i)) ∙ ap (λ t. old ++ t) (sym is)

@@ -1,14 +1,9 @@
 -- What is added to what is said.
 use Rattle.std.proofs.Common.{◌≡◌, sym, ap, ◌∙◌, ℕ, List, [], ◌∷◌, ◌++◌}
-use Rattle.std.specs.Prelude.{Result, Ok, Err, OnOk}
 use Rattle.std.proofs.lemmas.List.{append-nil}
 use Rattle.serde_json.specs.Data.{Data}
 use Rattle.cps_server.specs.Frames.{frame_of_json}
 use Rattle.cps_server.specs.Code.Said.{Adds}
-
--- nothing
-pub adds-none : (says : List Data → Type 0) (old : List ℕ) → says [] → Adds says old old
-adds-none says old right = record { said = []; right = right; added = sym (append-nil old) }
 
 -- one value
 pub adds-one : (says : List Data → Type 0) (json : Data) (old new : List ℕ) → says (json ∷ []) → new ≡ old ++ frame_of_json json → Adds says old new
@@ -18,8 +13,3 @@ adds-one says json old new right added =
 -- what says one thing, says another that follows of it
 pub adds-as : (one other : List Data → Type 0) (old new : List ℕ) → ((said : List Data) → one said → other said) → Adds one old new → Adds other old new
 adds-as one other old new follows adds = record { said = adds.said; right = follows adds.said adds.right; added = adds.added }
-
--- what follows of two clauses
-pub on-both : {T E P Q S : Type 0} (r : Result T E) → (P → Q → S) → OnOk r P → OnOk r Q → OnOk r S
-on-both (Ok done) f p q = f p q
-on-both (Err fault) f p q = tt

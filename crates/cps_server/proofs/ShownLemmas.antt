@@ -1,6 +1,6 @@
 -- What marks show of a line, wherever that stands.
 use Rattle.std.proofs.Common.{◌≡◌, ℕ, ◌+◌, ◌-◌, ◌<◌, ◌⊎◌, inl, inr, ⊎_elim, List, [], ◌∷◌, ◌++◌, length, get_or, take, drop, map, refl, sym, ap, subst, ◌∙◌, append_assoc, append-nil}
-use Rattle.std.proofs.lemmas.List.{drop-map, map-append, map_more, map_push, nil_from_length, length-map, take-map}
+use Rattle.std.proofs.lemmas.List.{drop-map, map-append, map_more, nil_from_length, length-map, take-map}
 use Rattle.cps_final.specs.Outcome.{Outcome}
 use Rattle.cps_input.specs.declared.character_fault.CharacterFault.{CharacterFault}
 use Rattle.cps_input.specs.declared.character_fault.Misfit.{Misfit}
@@ -16,10 +16,6 @@ Shows-none marks = sym (append-nil (map shown_of marks))
 
 pub Shows-append : (shown others : List Shown) (a b c : List LineMark) → Shows shown a b → Shows others b c → Shows (shown ++ others) a c
 Shows-append shown others a b c here back = back ∙ ap (λ (ms : List Shown). ms ++ others) here ∙ append_assoc (map shown_of a) shown others
-
-pub Shows-one : (mark : LineMark) (shown : Shown) (old new : List LineMark) → new ≡ old ++ mark ∷ [] → shown_of mark ≡ shown → Shows (shown ∷ []) old new
-Shows-one mark shown old new is same =
-    ap (map shown_of) is ∙ map_push shown_of old mark ∙ ap (λ (p : Shown). map shown_of old ++ p ∷ []) same
 
 -- one more of some
 pub Shows-next : {X : Type 0} (shown : X → Shown) (xs : List X) (at : ℕ) (d : X) (a b c : List LineMark) → at < length xs → Shows (map shown (take at xs)) a b

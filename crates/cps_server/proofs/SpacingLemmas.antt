@@ -1,7 +1,6 @@
 -- Texts of which only blanks change.
-use Rattle.std.proofs.Common.{◌≡◌, refl, sym, ap, ◌∙◌, ℕ, ◌+◌, ◌<◌, List, [], ◌∷◌, ◌++◌, get_or, length, map, take}
+use Rattle.std.proofs.Common.{◌≡◌, refl, sym, ap, ◌∙◌, ℕ, List, [], ◌∷◌, map}
 use Rattle.std.specs.Prelude.{All}
-use Rattle.std.proofs.lemmas.List.{map-append, take_more}
 use Rattle.std.proofs.lemmas.List.Elements.{All-nil, All-cons}
 use Rattle.cps_list.specs.Assembly.{Assembly}
 use Rattle.cps_list.specs.Symbols.{mentions_from}
@@ -44,13 +43,3 @@ pub same-lines : {A B C : Type 0} (f : B → C) (g : A → B) (was now : List A)
     → map (λ a. f (g a)) now ≡ map (λ a. f (g a)) was → map f after ≡ map f before
 same-lines f g was now before after was-is now-is same =
     sym (ap (map f) now-is) ∙ map-both f g now ∙ same ∙ sym (map-both f g was) ∙ ap (map f) was-is
-
--- one line more
-pub same-more : {A C : Type 0} (f : A → C) (was now : List A) (i : ℕ) (a b : A) → i < length was → i < length now → f (get_or now i b) ≡ f (get_or was i a)
-    → map f (take i now) ≡ map f (take i was) → map f (take (i + 1) now) ≡ map f (take (i + 1) was)
-same-more f was now i a b in-was in-now same before =
-    ap (map f) (take_more now i b in-now)
-    ∙ map-append f (take i now) (get_or now i b ∷ [])
-    ∙ (λ j. before j ++ same j ∷ [])
-    ∙ sym (map-append f (take i was) (get_or was i a ∷ []))
-    ∙ sym (ap (map f) (take_more was i a in-was))

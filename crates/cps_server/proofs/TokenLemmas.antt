@@ -1,30 +1,17 @@
 -- Tokens, one after another.
-use Rattle.std.proofs.Common.{◌≡◌, refl, sym, ap, subst, ◌∙◌, ℕ, suc, ◌+◌, ◌-◌, ◌^◌, ◌<◌, ◌≤◌, List, [], ◌∷◌, ◌++◌, length, get_or, take, min, arith}
-use Rattle.std.specs.List.{All, AllPairs, sum_by}
+use Rattle.std.proofs.Common.{◌≡◌, ap, ◌∙◌, ℕ, ◌+◌, ◌-◌, ◌<◌, ◌≤◌, List, [], ◌∷◌, ◌++◌, length, get_or, arith}
+use Rattle.std.specs.List.{All}
 use Rattle.std.proofs.lemmas.List.Elements.{All-get_or, All-push}
 use Rattle.std.proofs.lemmas.List.Quantifiers.{all_pairs_push}
-use Rattle.std.proofs.Math.Seq.{take-length}
-use Rattle.std.proofs.lemmas.List.Sums.{sum_by-take-le}
 use Rattle.cps_rpc.specs.declared.encoding.Encoding.{Encoding}
 use Rattle.cps_rpc.specs.declared.position.Range.{Range}
-use Rattle.cps_rpc.specs.Positions.{units, units_before}
-use Rattle.cps_server.specs.Ranges.{told_units}
+use Rattle.cps_rpc.specs.Positions.{units}
 use Rattle.cps_server.specs.declared.token.Token.{Token}
-use Rattle.cps_server.specs.Tokens.{AreTokens, IsInLines, IsToken, Precedes}
+use Rattle.cps_server.specs.Tokens.{IsInLines, IsToken, Precedes}
 use Rattle.cps_server.specs.Code.TokenList.{BeginsBehind, EndBy, EndsBy, IsBetween, KeepsBetween}
 
 all-so : {T : Type 0} (P Q : T → Type 0) → ((x : T) → P x → Q x) → (xs : List T) → All P xs → All Q xs
 all-so P Q so xs each = λ k d within. so (get_or xs k d) (each k d within)
-
--- no place of a line has more units before it than its end
-pub told-within : (encoding : Encoding) (line : List ℕ) (place : ℕ) → told_units encoding line place ≤ told_units encoding line (length line)
-told-within encoding line place =
-    still-below (units_before encoding line place) (units_before encoding line (length line)) (2 ^ 32 - 1)
-    (subst (λ whole. units_before encoding line place ≤ sum_by (units encoding) whole) (sym (take-length line))
-    (sum_by-take-le (units encoding) line place))
-  where
-    still-below : (a b most : ℕ) → a ≤ b → min a most ≤ min b most
-    still-below a b most below = omega (arith, below)
 
 -- one token more
 pub token-more : (encoding : Encoding) (text : List ℕ) (line start : ℕ) (tokens : List Token) (token : Token) → EndBy encoding text line start tokens
@@ -82,11 +69,6 @@ none-ended encoding text line start tokens none = record {
 
 pub none-between : (first end : ℕ) (tokens : List Token) → tokens ≡ [] → All (IsBetween first end) tokens
 none-between first end tokens none = λ k d within. absurd (no-place tokens none k within)
-
--- a token of a line stands between lines around it
-pub between-more : (line : ℕ) (tokens : List Token) (token : Token) → token.line ≡ line → KeepsBetween line tokens (tokens ++ token ∷ [])
-between-more line tokens token is first end from below all =
-    All-push (IsBetween first end) tokens token all (record { from = omega (arith, is, from); below = omega (arith, is, below) })
 
 -- tokens between the lines of a range
 pub in-range : (range : Range) (end : ℕ) (tokens : List Token) → end ≤ range.end.line + 1 → All (IsBetween range.start.line end) tokens

@@ -77,9 +77,6 @@ put-known es ps place k within is =
     known-put (put_at ps place) (last_ask es k) (map-some (λ (p : APut). p.answer) (slice_get ps place) (slice_get-some ps place within))
     ∙ ap (λ o. option_or (option_map Some o) (last_ask es k)) is
 
-pub ask-known : (es : List Ask) (ps : List APut) (found : Option (Option Answer)) (k : Key) → None ≡ last_put ps k → found ≡ last_ask es k → found ≡ known_in es ps k
-ask-known es ps found k none is = is ∙ ap (λ o. option_or (option_map Some o) (last_ask es k)) none
-
 pub index-known : (es : List Ask) (ps : List APut) (k : Key) (o : Option LogPlace) → Indexes es ps k o → option_and_then (found_in es ps) o ≡ known_in es ps k
 index-known es ps k None is = sym is
 index-known es ps k (Some known) is = is.1

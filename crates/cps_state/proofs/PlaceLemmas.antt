@@ -1,6 +1,6 @@
 -- Places after contents.
 use Rattle.std.proofs.Common.{◌≡◌, ℕ, ◌+◌, ◌<◌, ◌≤◌, List, [], ◌∷◌, length, get_or, drop, arith, sym, ap, ◌∙◌}
-use Rattle.std.proofs.lemmas.List.{drop_more, drop_all}
+use Rattle.std.proofs.lemmas.List.{drop_more}
 use Rattle.cps_expr.specs.declared.machine.Machine.{Machine}
 use Rattle.cps_expr.specs.declared.machine.Machine.TheVariants.{Cp, Pp}
 use Rattle.cps_state.specs.declared.made.Content.{Content}
@@ -24,6 +24,3 @@ pub end-next : (machine : Machine) (at next e : ℕ) (contents : List Content) (
 end-next machine at next e contents i content lt is moved before =
     ap (λ (n : ℕ). end_of machine n (drop (i + 1) contents)) (moved ∙ ap (λ (c : Content). behind machine at (width_of c)) is)
     ∙ sym (ap (end_of machine at) (drop_more contents i content lt)) ∙ before
-
-pub end-last : (machine : Machine) (at e : ℕ) (contents : List Content) (i : ℕ) → length contents ≤ i → end_of machine at (drop i contents) ≡ e → at ≡ e
-end-last machine at e contents i past before = sym (ap (end_of machine at) (drop_all i contents past)) ∙ before
