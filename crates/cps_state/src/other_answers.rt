@@ -1,9 +1,9 @@
 //! What stands at the keys at which nothing may stand too.
-ghost use Rattle.std.specs.Prelude.{◌≡◌, ◌<◌, ◌≤◌, ◌+◌, true, None, OnOk, IfSome, Some as Just, length, position, if◌then◌else◌};
+ghost use Rattle.std.specs.Prelude.{◌≡◌, ◌<◌, ◌≤◌, ◌+◌, true, None, OnOk, IfSome, Some as Just, length, position};
 ghost use Rattle.std.specs.Option.{option_copied};
 ghost use Rattle.std.specs.HashMap.{get, spare, keys};
 ghost use Rattle.cps_expr.specs.Value.{same_name};
-ghost use Rattle.cps_state.specs.Code.OtherAnswers.{answer_of, spare_of, is_rest};
+ghost use Rattle.cps_state.specs.Code.OtherAnswers.{IsPutAt, answer_of, spare_of, is_rest};
 ghost use Rattle.cps_state.specs.Code.Exchange.{with_answer};
 ghost use Rattle.cps_state.specs.declared.key.Key.{Key};
 
@@ -129,7 +129,7 @@ impl Counters {
     fn exchange(&mut self, block: Name, answer: Answer) -> Option<Answer>
         requires room { 0 < spare self.old.places }
         ensures old { result ≡ get same_name self.old.places block }
-        ensures answer { (name : Name) → get same_name self.new.places name ≡ (if same_name block name then Just answer else get same_name self.old.places name) }
+        ensures answer { IsPutAt same_name block answer (get same_name self.old.places) (get same_name self.new.places) }
         ensures room { spare self.old.places ≤ spare self.new.places + 1 }
     {
         match self.index_of(block) {
@@ -156,7 +156,7 @@ fn exchange_label(
 ) -> Option<Answer>
     requires room { 0 < spare labels.old }
     ensures old { result ≡ get same_name labels.old name }
-    ensures answer { (k : Name) → get same_name labels.new k ≡ (if same_name name k then Just answer else get same_name labels.old k) }
+    ensures answer { IsPutAt same_name name answer (get same_name labels.old) (get same_name labels.new) }
     ensures room { spare labels.old ≤ spare labels.new + 1 }
 {
     let Ok(old) = labels.insert(name, answer) else {
@@ -173,7 +173,7 @@ fn exchange_rest(
     requires room { 0 < spare rest.old }
     requires rest { is_rest key ≡ true }
     ensures old { result ≡ get ⟦<Key as PartialEq>⟧.eq rest.old key }
-    ensures answer { (k : Key) → get ⟦<Key as PartialEq>⟧.eq rest.new k ≡ (if ⟦<Key as PartialEq>⟧.eq key k then Just answer else get ⟦<Key as PartialEq>⟧.eq rest.old k) }
+    ensures answer { IsPutAt ⟦<Key as PartialEq>⟧.eq key answer (get ⟦<Key as PartialEq>⟧.eq rest.old) (get ⟦<Key as PartialEq>⟧.eq rest.new) }
     ensures room { spare rest.old ≤ spare rest.new + 1 }
 {
     let Ok(old) = rest.insert(key, answer) else {

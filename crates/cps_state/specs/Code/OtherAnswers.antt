@@ -1,5 +1,5 @@
 -- For the code that keeps a state, not part of what a reader believes: what stands at the keys at which nothing may stand too.
-use Rattle.std.specs.Prelude.{ℕ, min, Bool, true, false, Option, Some}
+use Rattle.std.specs.Prelude.{◌≡◌, ℕ, min, Bool, true, false, Option, Some, if◌then◌else◌}
 use Rattle.std.specs.HashMap.{get, spare}
 use Rattle.cps_text.specs.declared.name.Name.{Name}
 use Rattle.cps_expr.specs.Value.{same_name}
@@ -29,3 +29,7 @@ abbrev pub is_rest : Key → Bool
 is_rest (key.Counter (Some block)) = false
 is_rest (key.Label name) = false
 is_rest other = true
+
+-- this stands at one key now, and at all others what stood there
+abbrev pub IsPutAt : {K : Type 0} → (K → K → Bool) → K → Answer → (K → Option Answer) → (K → Option Answer) → Type 0
+IsPutAt {K} same key answer old new = (other : K) → new other ≡ (if same key other then Some answer else old other)
